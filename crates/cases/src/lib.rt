@@ -1,0 +1,1 @@
+// Nothing to run: this crate holds computed examples of the definitions in `rules`.

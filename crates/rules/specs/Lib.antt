@@ -1,0 +1,14 @@
+pub mod Table
+pub mod Mesh
+pub mod Point
+pub mod Link
+pub mod Step
+pub mod Insert
+pub mod Edit
+pub mod Extrude
+pub mod Sound
+pub mod Call
+pub mod Records
+pub mod Script
+pub mod Dump
+pub mod Corners
