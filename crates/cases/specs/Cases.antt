@@ -1,6 +1,6 @@
--- Scripts with what the oracle, which runs the Rust, prints for them: the answers, all records, the counts. The first eleven are the oracle's
--- own stored cases; in the other six, drawn at random, each of the nine edits is accepted. One answer is document 01's own: where the
--- Rust leaves a mesh that is not sound, it is `no 8` here.
+-- Scripts with what the oracle, which runs the Rust, prints for them: the answers, all records, the counts. The first eleven are scripts of the
+-- oracle's stored cases, without the lines that only the oracle has; in the other six, drawn at random, each of the nine edits is accepted.
+-- One answer is document 01's own: where the Rust leaves a mesh that is not sound, it is `no 8` here.
 use Prim.Native.String.{String}
 use Prim.Native.Nat.{ℕ}
 use mathlib.Core.List.{List, [], _∷_}

@@ -2,5 +2,6 @@ pub mod Scan
 pub mod Counts
 pub mod Sums
 pub mod Walks
+pub mod Places
 pub mod Corners
 pub mod Promises

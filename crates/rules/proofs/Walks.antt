@@ -24,6 +24,11 @@ module _ (step : ℕ → ℕ) (first : ℕ) where
   walk-suc m zero h = absurd (not-suc-le-zero h)
   walk-suc m (suc x) h = refl
 
+  pub walk-here : (m n x : ℕ) → n < m → 1 ≤ x → walk step first (m - n) x ≡ x ∷ cond (eqb (step x) first) [] (walk step first (m - (n + 1)) (step x))
+  walk-here m n x l h =
+      let z : m - n ≡ suc (m - (n + 1)) = omega arith in
+      rw (z, walk-suc (m - (n + 1)) x h)
+
   pub walk-stop : (m n x : ℕ) → n < m → 1 ≤ x → step x ≡ first → walk step first (m - n) x ≡ x ∷ []
   walk-stop m n x l h e =
       let z : m - n ≡ suc (m - (n + 1)) = omega arith in
@@ -41,7 +46,7 @@ module _ (step : ℕ → ℕ) (first : ℕ) where
   pub stored-none : (m : ℕ) (out : List ℕ) (n x : ℕ) → x ≡ 0 → Stored m out n x → take n out ≡ walk step first m first
   stored-none m out n x e h = sym (append-nil (take n out)) ∙ ap (λ (l : List ℕ). take n out ++ l) (sym (walk-none (m - n)) ∙ ap (walk step first (m - n)) (sym e)) ∙ h
 
-  walk-zero : (x : ℕ) → walk step first 0 x ≡ []
+  pub walk-zero : (x : ℕ) → walk step first 0 x ≡ []
   unfolding walk
   walk-zero x = refl
 

@@ -59,9 +59,12 @@ interior per f m =
     upTo (λ i a. setFace (connect a (arcAt a per i) (arcAt a per (after (length per) i))) (arcAt a per i) f) (length per) m
 
 -- the first arc of the list that has no face now, or none
-unfoldable pub firstFaceless : Mesh → List ℕ → ℕ
-firstFaceless m [] = 0
-firstFaceless m (x ∷ xs) = let later = firstFaceless m xs in cond (eqb (face m x) 0) x later
+unfoldable pub facelessIn : Table → List ℕ → ℕ
+facelessIn arcs [] = 0
+facelessIn arcs (x ∷ xs) = let later = facelessIn arcs xs in cond (eqb (cell arcs x 4) 0) x later
+
+abbrev pub firstFaceless : Mesh → List ℕ → ℕ
+firstFaceless m l = facelessIn (m .arcs) l
 
 -- the exterior of pair i, (a,b), if its opposite has no face. The opposite's next is the first arc in a's outgoing list that has no face now,
 -- or else the opposite of previous of (a,b); its previous likewise from b's incoming list, or else the opposite of next of (a,b).

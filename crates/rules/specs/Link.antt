@@ -8,8 +8,9 @@ use Rattle.rules.specs.declared.Position.{Position}
 use Rattle.rules.specs.declared.Vertex.{Vertex}
 use Rattle.rules.specs.declared.Ended.{Ended}
 use Rattle.rules.specs.declared.Ended.the-variants.{Closed, Open, Cut}
+use Rattle.rules.specs.declared.Walk.{Walk}
 use Rattle.rules.specs.Table.{Table, cell, put, putRow, freeRow, count, used, upTo}
-use Rattle.rules.specs.Mesh.{Mesh, mesh, with-arcs, ringLimit, source, dest, next, previous, face, edge, leading, faceArc, opposite, keyAt, findArc, vertexKind, edgeKind, nextKey, oneUp, counted}
+use Rattle.rules.specs.Mesh.{Mesh, mesh, with-arcs, ringLimit, source, dest, next, previous, face, edge, leading, faceArc, oppositeOf, opposite, keyAt, findArc, vertexKind, edgeKind, nextKey, oneUp, counted, linksOf}
 use Rattle.rules.specs.Point.{rowOf, positionAt}
 
 -- ---- rule 1: vertices
@@ -59,6 +60,10 @@ walkEnded step first (suc bound) (suc x) =
     let later = walkEnded step first bound (step (suc x)) in
     cond (eqb (step (suc x)) first) Closed later
 
+-- both, as the code holds them
+unfoldable pub walkOf : (ℕ → ℕ) → ℕ → ℕ → Walk
+walkOf step first bound = record { links = linksOf (walk step first bound first); ended = walkEnded step first bound first }
+
 -- a ring starts at the face's arc and follows next
 unfoldable pub ring : Mesh → ℕ → List ℕ
 ring m f = walk (next m) (faceArc m f) ringLimit (faceArc m f)
@@ -75,8 +80,11 @@ unfoldable pub arcCount : Mesh → ℕ
 arcCount m = count used (m .arcs)
 
 -- after (a,x) in a vertex's outgoing list comes next of (x,a)
-unfoldable pub turn : Mesh → ℕ → ℕ
-turn m x = next m (opposite m x)
+unfoldable pub turnIn : Table → Table → ℕ → ℕ
+turnIn arcs edges x = cell arcs (oppositeOf arcs edges x) 2
+
+abbrev pub turn : Mesh → ℕ → ℕ
+turn m x = turnIn (m .arcs) (m .edges) x
 
 -- a vertex's outgoing list starts at its leading arc, and is at most as long as the mesh has arcs; the incoming list is its opposites
 unfoldable pub outgoing : Mesh → ℕ → List ℕ

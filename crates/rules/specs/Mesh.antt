@@ -160,3 +160,7 @@ placesOf l = take ringLimit (l ++ replicate ringLimit 0)
 
 unfoldable pub linksOf : List ℕ → Links
 linksOf l = record { at = placesOf l; len = length l }
+
+-- the list that the code holds
+unfoldable pub listOf : Links → List ℕ
+listOf l = take (l .len) (l .at)

@@ -85,6 +85,12 @@ pub enum Ended {
     Cut,
 }
 
+// A walk of at most 64 arcs, and how it ended.
+pub struct Walk {
+    pub links: Links,
+    pub ended: Ended,
+}
+
 // The nine edits with what the caller gives, by keys. The keys of a face insert stand beside it, as a list.
 pub enum Edit {
     VertexInsert(Position),
