@@ -1,0 +1,12 @@
+pub mod Rows
+pub mod Keys
+pub mod Around
+pub mod SoundParts
+pub mod Ring
+pub mod Totals
+pub mod Clauses
+pub mod Edges
+pub mod Reached
+pub mod Demand3
+pub mod RowsStay
+pub mod Triangle
