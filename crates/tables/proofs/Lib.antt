@@ -1,0 +1,5 @@
+pub mod Cells
+pub mod Scans
+pub mod Field
+pub mod Lists
+pub mod Exact

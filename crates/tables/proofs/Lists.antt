@@ -1,0 +1,82 @@
+-- Loops over a list with one store a turn, from the front: what is copied, and what is filled. One law for any element type.
+use mathlib.Core.Path.{_≡_, refl, ap, _∙_}
+use mathlib.Core.List.{List, [], _∷_, _++_, append-nil}
+use Prim.Native.Nat.{ℕ, zero, suc, _+_, _≤_, _<_, min}
+use native.Mathlib.Nat.{not-suc-le-zero, le-of-suc-le-suc}
+use native.Mathlib.Numerals.{add-one}
+use native.Mathlib.Decide.{decLe}
+use native.Mathlib.Omega.{arith}
+use lib.ListN.{length, set, getD, take, drop, replicate, drop-of-length-le, length-append, length-take, length-drop}
+use lib.Seq.{take-all, take-at}
+use Rattle.tables.specs.Sets.{over}
+
+module _ {A : Type 0} where
+  -- s over the first n places of d
+  abbrev pub upto : List A → ℕ → List A → List A
+  upto s n d = take n s ++ drop n d
+
+  upto-suc : (n : ℕ) (s d : List A) (z : A) → n < length d → n < length s → set (upto s n d) n (getD s n z) ≡ upto s (suc n) d
+  upto-suc n s [] z h k = absurd (not-suc-le-zero h)
+  upto-suc n [] (x ∷ d) z h k = absurd (not-suc-le-zero k)
+  upto-suc zero (y ∷ s) (x ∷ d) z h k = refl
+  upto-suc (suc n) (y ∷ s) (x ∷ d) z h k = ap (λ (t : List A). y ∷ t) (upto-suc n s d z (le-of-suc-le-suc h) (le-of-suc-le-suc k))
+
+  pub upto-more : (n : ℕ) (s d : List A) (z : A) → n < length d → n < length s → set (upto s n d) n (getD s n z) ≡ upto s (n + 1) d
+  upto-more n s d z h k = rw add-one (upto-suc n s d z h k)
+
+  -- the lesser of the two lengths is as far as it goes
+  pub upto-all : (n : ℕ) (s d : List A) → n ≡ min (length d) (length s) → upto s n d ≡ over s d
+  unfolding over
+  upto-all n s d e = go (decLe (length s) (length d))
+    where
+      go : Dec (length s ≤ length d) → upto s n d ≡ take (length d) s ++ drop (length s) d
+      go (yes l) =
+          let k : n ≡ length s = omega arith in
+          let h : length s ≤ n = omega arith in
+          rw (take-all n s h, take-all (length d) s l, k)
+      go (no l) =
+          let k : n ≡ length d = omega arith in
+          let h : length d ≤ n = omega arith in
+          let m : length d ≤ length s = omega arith in
+          rw (drop-of-length-le d h, drop-of-length-le d m, k)
+
+  -- v in the first n places of d
+  abbrev pub fill : A → ℕ → List A → List A
+  fill v n d = replicate n v ++ drop n d
+
+  fill-suc : (n : ℕ) (v : A) (d : List A) → n < length d → set (fill v n d) n v ≡ fill v (suc n) d
+  fill-suc n v [] l = absurd (not-suc-le-zero l)
+  fill-suc zero v (x ∷ d) l = refl
+  fill-suc (suc n) v (x ∷ d) l = ap (λ (t : List A). v ∷ t) (fill-suc n v d (le-of-suc-le-suc l))
+
+  pub fill-more : (n : ℕ) (v : A) (d : List A) → n < length d → set (fill v n d) n v ≡ fill v (n + 1) d
+  fill-more n v d h = rw add-one (fill-suc n v d h)
+
+  pub fill-all : (n : ℕ) (v : A) (d : List A) → n ≤ length d → length d ≤ n → fill v n d ≡ replicate (length d) v
+  fill-all n v d h k = let e : n ≡ length d = omega arith in rw (drop-of-length-le d k, append-nil, e)
+
+  -- ---- what a copy leaves, for its callers
+
+  -- a source that is as long as the target, or shorter: it stands whole at the front
+  pub over-front : (s d : List A) → length s ≤ length d → over s d ≡ s ++ drop (length s) d
+  unfolding over
+  over-front s d h = rw (take-all (length d) s h)
+
+  -- a source that is as long as the target, or longer: its first rows are the target
+  pub over-back : (s d : List A) → length d ≤ length s → over s d ≡ take (length d) s
+  unfolding over
+  over-back s d h = rw (drop-of-length-le d h, append-nil)
+
+  pub over-same : (s d : List A) → length s ≡ length d → over s d ≡ s
+  over-same s d e = over-back s d (omega arith) ∙ take-all (length d) s (omega arith)
+
+  -- as long as the target was
+  pub over-length : (s d : List A) → length (over s d) ≡ length d
+  unfolding over
+  over-length s d = simp (length-append, length-take, length-drop) (omega arith)
+
+  -- there and back: what was copied into a longer table comes back whole
+  pub over-again : (s d : List A) → length s ≤ length d → over (over s d) s ≡ s
+  over-again s d h =
+      let l : length s ≤ length (over s d) = omega (arith, over-length s d) in
+      over-back (over s d) s l ∙ rw (over-front s d h) (take-at s (drop (length s) d) (length s) refl)

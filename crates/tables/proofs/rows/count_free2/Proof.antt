@@ -1,0 +1,68 @@
+-- `tables::rows::count_free2` meets its contract. The invariant: n of the rows before i count, and the rows from i on hold the rest. The measure is what is left of the table. Assumes nothing.
+use Prim.Native.Nat.{_-_, _≤_}
+use mathlib.Core.List.{[]}
+use mathlib.Core.Logic.{⊎-elim}
+use native.Mathlib.Omega.{arith}
+use lib.ListN.{length}
+use borrow.Author.Needs.{needs}
+use borrow.Author.Tests.{eq-eqb, ne-eqb}
+use Rattle.rules.specs.Table.{unused}
+use Rattle.tables.proofs.Scans.{Counted, counted-one, counted-none, counted-all}
+use Rattle.tables.proofs.rows.count_free2.Statement.{statement}
+use Rattle.tables.proofs.rows.count_free2.Tie as tie
+
+abbrev Inv-loop : tie.InvT-loop
+Inv-loop t n₀ i₀ n i = (i ≤ length t) × ((n ≤ i) × Counted unused t [] n i)
+
+abbrev μ-loop : tie.MeasureT-loop
+μ-loop t n₀ i₀ n i = length t - i
+
+loop-holds : tie.Need-loop-holds Inv-loop μ-loop
+loop-holds c = search needs
+
+mul-if1 : tie.Need-mul-if1 Inv-loop μ-loop
+mul-if1 c = search needs
+
+index-1-if1 : tie.Need-index-1-if1 Inv-loop μ-loop
+index-1-if1 c = search needs
+
+index-2-if1 : tie.Need-index-2-if1 Inv-loop μ-loop
+index-2-if1 c = search needs
+
+add-n : tie.Need-add-n Inv-loop μ-loop
+add-n c = search needs
+
+add-i : tie.Need-add-i Inv-loop μ-loop
+add-i c = search needs
+
+loop-less : tie.Need-loop-less Inv-loop μ-loop
+loop-less c = search needs
+
+loop-again : tie.Need-loop-again Inv-loop μ-loop
+loop-again c =
+    let l = c .before .before .before in
+    let t = l .before .args .t .now in
+    let h = c .before .before .loop-test .taken in
+    ⊎-elim
+    (λ w. (search needs, (search needs, omega (arith, counted-one unused t [] (l .loop .n) (l .loop .i) h (eq-eqb _ _ (w .0 .taken)) (l .loop .inv .1 .1)))))
+    (λ w. (search needs, (search needs, omega (arith, counted-none unused t [] (l .loop .n) (l .loop .i) h (ne-eqb _ _ (w .0 .left)) (l .loop .inv .1 .1)))))
+    (c .if1 .came)
+
+returns : tie.Need-returns Inv-loop μ-loop
+returns c = counted-all unused _ [] _ _ (c .loop-test .left) (c .before .loop .inv .1 .1)
+
+pub count-free2-spec : {M : Type 1} → statement M
+count-free2-spec =
+    tie.close
+    (tie.spec
+    Inv-loop
+    μ-loop
+    loop-holds
+    mul-if1
+    index-1-if1
+    index-2-if1
+    add-n
+    add-i
+    loop-less
+    loop-again
+    returns)

@@ -1,0 +1,60 @@
+-- `tables::sets::zero3` meets its contract. The invariant: the first i rows are zero, and the rest is as it was. The measure is what is left of the table. Assumes nothing.
+use Prim.Native.Nat.{_≤_, _-_}
+use mathlib.Core.List.{[], _∷_}
+use mathlib.Core.Path.{_≡_, _∙_}
+use lib.ListN.{length, length-set}
+use borrow.Author.Needs.{needs}
+use Rattle.tables.proofs.Lists.{fill, fill-more, fill-all}
+use Rattle.tables.proofs.sets.zero3.Statement.{statement}
+use Rattle.tables.proofs.sets.zero3.Tie as tie
+
+abbrev Inv-loop : tie.InvT-loop
+Inv-loop to₀ i₀ to i = (length to ≡ length to₀) × ((i ≤ length to₀) × (to ≡ fill (0 ∷ 0 ∷ 0 ∷ []) i to₀))
+
+abbrev μ-loop : tie.MeasureT-loop
+μ-loop to₀ i₀ to i = length to₀ - i
+
+loop-holds : tie.Need-loop-holds Inv-loop μ-loop
+loop-holds c = search needs
+
+mul-t3 : tie.Need-mul-t3 Inv-loop μ-loop
+mul-t3 c = search needs
+
+slice-set-from-to : tie.Need-slice-set-from-to Inv-loop μ-loop
+slice-set-from-to c = search needs
+
+add-i : tie.Need-add-i Inv-loop μ-loop
+add-i c = search needs
+
+loop-less : tie.Need-loop-less Inv-loop μ-loop
+loop-less c = search needs
+
+loop-again : tie.Need-loop-again Inv-loop μ-loop
+loop-again c =
+    let l = c .before in
+    let a = l .before .args in
+    (simp length-set (search needs), (search needs, rw (l .loop .inv .1 .1) (fill-more (l .loop .i) (0 ∷ 0 ∷ 0 ∷ []) (a .to .now) (search needs))))
+
+same-length : tie.Need-same-length Inv-loop μ-loop
+same-length c = search needs
+
+returns : tie.Need-returns Inv-loop μ-loop
+returns c =
+    let l = c .before in
+    let a = l .before .args in
+    l .loop .inv .1 .1 ∙ fill-all (l .loop .i) (0 ∷ 0 ∷ 0 ∷ []) (a .to .now) (search needs) (search needs)
+
+pub zero3-spec : {M : Type 1} → statement M
+zero3-spec =
+    tie.close
+    (tie.spec
+    Inv-loop
+    μ-loop
+    loop-holds
+    mul-t3
+    slice-set-from-to
+    add-i
+    loop-less
+    loop-again
+    same-length
+    returns)
