@@ -1,0 +1,3 @@
+pub mod Search
+pub mod Storing
+pub mod Listing
