@@ -1,0 +1,72 @@
+use borrow.Author.Needs.{needs}
+use Rattle.lists.proofs.from_keys.Statement.{statement}
+use Rattle.lists.proofs.from_keys.Tie as tie
+use Prim.Native.Nat.{ℕ, _+_, _-_, _≤_, _<_, min}
+use native.Mathlib.Omega.{arith}
+use mathlib.Core.Path.{_≡_, refl, ap, sym, _∙_}
+use mathlib.Core.Bool.{true, false, not}
+use mathlib.Core.List.{List, map}
+use lib.ListN.{length, getD, take, drop, set}
+use borrow.Author.Tests.{eq-eqb, ne-eqb, lt-ltb, le-ltb, not-true, not-false}
+use Rattle.rules.specs.Table.{has, distinct}
+use Rattle.rules.specs.Mesh.{placesOf, linksOf, listOf, findKey}
+use Rattle.lists.proofs.Laws.{keys-more, keys-all}
+
+abbrev Inv-loop : tie.InvT-loop
+Inv-loop keys n at₀ i₀ at i = (i ≤ n) × (at ≡ placesOf (take i keys))
+
+abbrev μ-loop : tie.MeasureT-loop
+μ-loop keys n at₀ i₀ at i = n - i
+
+in-use-requires : tie.Need-in-use-requires Inv-loop μ-loop
+in-use-requires c κs = search needs
+
+loop-holds : tie.Need-loop-holds Inv-loop μ-loop
+unfolding placesOf
+loop-holds c = (search needs, refl)
+
+mul-at : tie.Need-mul-at Inv-loop μ-loop
+mul-at c = search needs
+
+shared-slice-read-at : tie.Need-shared-slice-read-at Inv-loop μ-loop
+shared-slice-read-at c = search needs
+
+mul-at-2 : tie.Need-mul-at-2 Inv-loop μ-loop
+mul-at-2 c = search needs
+
+array-write-at : tie.Need-array-write-at Inv-loop μ-loop
+array-write-at c = search needs
+
+add-i : tie.Need-add-i Inv-loop μ-loop
+add-i c = search needs
+
+loop-less : tie.Need-loop-less Inv-loop μ-loop
+loop-less c = search needs
+
+loop-again : tie.Need-loop-again Inv-loop μ-loop
+loop-again c =
+    let l = c .before .before in
+    (search needs, keys-more (c .before .before .before .before .before .args .keys .now) (l .loop .at) (l .loop .i) (search needs) (search needs) (l .loop .inv .1))
+
+returns : tie.Need-returns Inv-loop μ-loop
+returns c =
+    let l = c .before in
+    let all : l .loop .i ≡ c .before .before .in-use .result = omega arith in
+    keys-all (c .before .before .before .before .args .keys .now) (l .loop .at) (c .before .before .in-use .result) (c .before .before .in-use .ensures) (rw all at (l .loop .inv .1))
+
+pub from-keys-spec : {M : Type 1} → statement M
+from-keys-spec =
+    tie.close
+    (tie.spec
+    Inv-loop
+    μ-loop
+    in-use-requires
+    loop-holds
+    mul-at
+    shared-slice-read-at
+    mul-at-2
+    array-write-at
+    add-i
+    loop-less
+    loop-again
+    returns)

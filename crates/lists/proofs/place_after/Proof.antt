@@ -1,0 +1,27 @@
+use borrow.Author.Needs.{needs}
+use Rattle.lists.proofs.place_after.Statement.{statement}
+use Rattle.lists.proofs.place_after.Tie as tie
+use Prim.Native.Nat.{ℕ, _+_, _-_, _≤_, _<_, min}
+use native.Mathlib.Omega.{arith}
+use mathlib.Core.Path.{_≡_, refl, ap, sym, _∙_}
+use mathlib.Core.Bool.{true, false, not}
+use mathlib.Core.List.{List, map}
+use lib.ListN.{length, getD, take, drop, set}
+use borrow.Author.Tests.{eq-eqb, ne-eqb, lt-ltb, le-ltb, not-true, not-false}
+use Rattle.rules.specs.Table.{has, distinct}
+use Rattle.rules.specs.Mesh.{placesOf, linksOf, listOf, findKey}
+
+add-if1 : tie.Need-add-if1
+add-if1 c = search needs
+
+returns : tie.Need-returns
+returns c = rw (eq-eqb _ _ (c .if1 .taken))
+
+add-result : tie.Need-add-result
+add-result c = search needs
+
+returns-2 : tie.Need-returns-2
+returns-2 c = rw (ne-eqb _ _ (c .if1 .left))
+
+pub place-after-spec : {M : Type 1} → statement M
+place-after-spec = tie.close (tie.spec add-if1 returns add-result returns-2)

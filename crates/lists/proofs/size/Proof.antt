@@ -1,0 +1,25 @@
+use borrow.Author.Needs.{needs}
+use Rattle.lists.proofs.size.Statement.{statement}
+use Rattle.lists.proofs.size.Tie as tie
+use Prim.Native.Nat.{ℕ, _+_, _-_, _≤_, _<_, min}
+use native.Mathlib.Omega.{arith}
+use mathlib.Core.Path.{_≡_, refl, ap, sym, _∙_}
+use mathlib.Core.Bool.{true, false, not}
+use mathlib.Core.List.{List, map}
+use lib.ListN.{length, getD, take, drop, set}
+use borrow.Author.Tests.{eq-eqb, ne-eqb, lt-ltb, le-ltb, not-true, not-false}
+use Rattle.rules.specs.Table.{has, distinct}
+use Rattle.rules.specs.Mesh.{placesOf, linksOf, listOf, findKey}
+use Rattle.lists.proofs.Laws.{list-size}
+
+known-places-requires : tie.Need-known-places-requires
+known-places-requires c κs = search needs
+
+in-use-requires : tie.Need-in-use-requires
+in-use-requires c κs = search needs
+
+returns : tie.Need-returns
+returns c = list-size (c .before .before .before .args .list) (c .in-use .result) (c .before .known-places .ensures) (c .in-use .ensures)
+
+pub size-spec : {M : Type 1} → statement M
+size-spec = tie.close (tie.spec known-places-requires in-use-requires returns)
