@@ -1,0 +1,60 @@
+// A new arc, a new edge with both its arcs, and the edge that is there or is made. Document 01's rule 4, `get_or_insert_with`:
+// "A new arc becomes its source's leading arc; (a,b) is made before (b,a), and a new edge names (a,b)."
+
+use rules::ArcRow;
+use rules::EdgeRow;
+use rules::VertexRow;
+use tables::links;
+use tables::rows;
+ghost use mathlib.Core.Path.{_≡_};
+ghost use mathlib.Core.List.{List};
+ghost use Prim.Native.Nat.{ℕ};
+ghost use lib.Ieee.{Float};
+ghost use Rattle.rules.specs.Table.{Table, freeRow};
+ghost use Rattle.rules.specs.Mesh.{mesh};
+ghost use Rattle.rules.specs.Link.{newArc, newEdge, getOrInsertEdge};
+
+// The arc (a,b) of the edge e in the lowest unused row; the row's link.
+fn new_arc(vertices: &mut [VertexRow], arcs: &mut [ArcRow], a: u32, b: u32, e: u32) -> u32
+    ensures { λ r. ⌜ (r ≡ freeRow (now (arcs .entry))) × ((p : List (List Float)) (d f : Table) (k : List ℕ) → mesh (now (vertices .exit)) p (now (arcs .exit)) d f k ≡ newArc (mesh (now (vertices .entry)) p (now (arcs .entry)) d f k) a b e) ⌝ }
+{
+    let x = rows::free6(arcs);
+    rows::put_row6(arcs, x, [a, b, 0, 0, 0, e]);
+    links::set_leading(vertices, a, x);
+    x
+}
+
+pub fn new_edge(
+    vertices: &mut [VertexRow],
+    arcs: &mut [ArcRow],
+    edges: &mut [EdgeRow],
+    counters: &mut [u32; 3],
+    a: u32,
+    b: u32,
+)
+    ensures { λ _. ⌜ ((p : List (List Float)) (f : Table) → mesh (now (vertices .exit)) p (now (arcs .exit)) (now (edges .exit)) f (now (counters .exit)) ≡ newEdge (mesh (now (vertices .entry)) p (now (arcs .entry)) (now (edges .entry)) f (now (counters .entry))) a b) ⌝ }
+{
+    let row = rows::free3(edges);
+    let x = new_arc(vertices, arcs, a, b, row);
+    let y = new_arc(vertices, arcs, b, a, row);
+    let key = counters[1];
+    let first = tables::vertices::one_up(key);
+    rows::put_row3(edges, row, [first, x, y]);
+    counters[1] = first;
+}
+
+// The edge from a to b is there, or is made.
+pub fn get_or_insert_edge(
+    vertices: &mut [VertexRow],
+    arcs: &mut [ArcRow],
+    edges: &mut [EdgeRow],
+    counters: &mut [u32; 3],
+    a: u32,
+    b: u32,
+)
+    ensures { λ _. ⌜ ((p : List (List Float)) (f : Table) → mesh (now (vertices .exit)) p (now (arcs .exit)) (now (edges .exit)) f (now (counters .exit)) ≡ getOrInsertEdge (mesh (now (vertices .entry)) p (now (arcs .entry)) (now (edges .entry)) f (now (counters .entry))) a b) ⌝ }
+{
+    if rows::find_arc(arcs, a, b) == 0 {
+        new_edge(vertices, arcs, edges, counters, a, b);
+    }
+}
