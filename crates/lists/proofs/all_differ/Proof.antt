@@ -1,15 +1,14 @@
+-- `lists::all_differ` meets its contract. The loop keeps that the list is distinct if what is left of it is. Assumes nothing.
 use borrow.Author.Needs.{needs}
 use Rattle.lists.proofs.all_differ.Statement.{statement}
 use Rattle.lists.proofs.all_differ.Tie as tie
-use Prim.Native.Nat.{ℕ, _+_, _-_, _≤_, _<_, min}
+use Prim.Native.Nat.{_+_, _-_}
 use native.Mathlib.Omega.{arith}
-use mathlib.Core.Path.{_≡_, refl, ap, sym, _∙_}
-use mathlib.Core.Bool.{true, false, not}
-use mathlib.Core.List.{List, map}
-use lib.ListN.{length, getD, take, drop, set}
-use borrow.Author.Tests.{eq-eqb, ne-eqb, lt-ltb, le-ltb, not-true, not-false}
+use mathlib.Core.Path.{_≡_, refl, sym, _∙_}
+use mathlib.Core.Bool.{true, false}
+use lib.ListN.{getD, drop}
 use Rattle.rules.specs.Table.{has, distinct}
-use Rattle.rules.specs.Mesh.{placesOf, linksOf, listOf, findKey}
+use Rattle.rules.specs.Mesh.{listOf}
 use Rattle.lists.proofs.Laws.{twice-here, twice-next, twice-end}
 
 abbrev Inv-loop : tie.InvT-loop

@@ -1,15 +1,12 @@
+-- `lists::from_keys` meets its contract. The loop keeps the places of as many keys as it put in. Assumes nothing.
 use borrow.Author.Needs.{needs}
 use Rattle.lists.proofs.from_keys.Statement.{statement}
 use Rattle.lists.proofs.from_keys.Tie as tie
-use Prim.Native.Nat.{ℕ, _+_, _-_, _≤_, _<_, min}
+use Prim.Native.Nat.{_-_, _≤_}
 use native.Mathlib.Omega.{arith}
-use mathlib.Core.Path.{_≡_, refl, ap, sym, _∙_}
-use mathlib.Core.Bool.{true, false, not}
-use mathlib.Core.List.{List, map}
-use lib.ListN.{length, getD, take, drop, set}
-use borrow.Author.Tests.{eq-eqb, ne-eqb, lt-ltb, le-ltb, not-true, not-false}
-use Rattle.rules.specs.Table.{has, distinct}
-use Rattle.rules.specs.Mesh.{placesOf, linksOf, listOf, findKey}
+use mathlib.Core.Path.{_≡_, refl}
+use lib.ListN.{take}
+use Rattle.rules.specs.Mesh.{placesOf}
 use Rattle.lists.proofs.Laws.{keys-more, keys-all}
 
 abbrev Inv-loop : tie.InvT-loop

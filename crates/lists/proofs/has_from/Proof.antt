@@ -1,15 +1,13 @@
+-- `lists::has_from` meets its contract. The loop keeps that x stands from place i on if it stands from the place reached on. Assumes nothing.
 use borrow.Author.Needs.{needs}
 use Rattle.lists.proofs.has_from.Statement.{statement}
 use Rattle.lists.proofs.has_from.Tie as tie
-use Prim.Native.Nat.{ℕ, _+_, _-_, _≤_, _<_, min}
+use Prim.Native.Nat.{_-_}
 use native.Mathlib.Omega.{arith}
-use mathlib.Core.Path.{_≡_, refl, ap, sym, _∙_}
-use mathlib.Core.Bool.{true, false, not}
-use mathlib.Core.List.{List, map}
-use lib.ListN.{length, getD, take, drop, set}
-use borrow.Author.Tests.{eq-eqb, ne-eqb, lt-ltb, le-ltb, not-true, not-false}
-use Rattle.rules.specs.Table.{has, distinct}
-use Rattle.rules.specs.Mesh.{placesOf, linksOf, listOf, findKey}
+use mathlib.Core.Path.{_≡_, refl, sym, _∙_}
+use lib.ListN.{drop}
+use Rattle.rules.specs.Table.{has}
+use Rattle.rules.specs.Mesh.{listOf}
 use Rattle.lists.proofs.Laws.{has-here, has-next, has-end}
 
 abbrev Inv-loop : tie.InvT-loop

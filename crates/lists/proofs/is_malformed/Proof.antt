@@ -1,15 +1,12 @@
+-- `lists::is_malformed` meets its contract. The two tests of the code. Assumes nothing.
 use borrow.Author.Needs.{needs}
 use Rattle.lists.proofs.is_malformed.Statement.{statement}
 use Rattle.lists.proofs.is_malformed.Tie as tie
-use Prim.Native.Nat.{ℕ, _+_, _-_, _≤_, _<_, min}
+use Prim.Native.Nat.{_-_, _≤_}
 use native.Mathlib.Omega.{arith}
-use mathlib.Core.Path.{_≡_, refl, ap, sym, _∙_}
-use mathlib.Core.Bool.{true, false, not}
-use mathlib.Core.List.{List, map}
-use lib.ListN.{length, getD, take, drop, set}
-use borrow.Author.Tests.{eq-eqb, ne-eqb, lt-ltb, le-ltb, not-true, not-false}
-use Rattle.rules.specs.Table.{has, distinct}
-use Rattle.rules.specs.Mesh.{placesOf, linksOf, listOf, findKey}
+use lib.ListN.{length}
+use borrow.Author.Tests.{lt-ltb, le-ltb}
+use Rattle.rules.specs.Mesh.{listOf}
 use Rattle.rules.specs.Insert.{malformed}
 
 size-requires : tie.Need-size-requires
@@ -25,8 +22,9 @@ all-differ-requires c κs = search needs
 returns-2 : tie.Need-returns-2
 unfolding malformed
 returns-2 c =
-    let n : 3 ≤ length (listOf (c .before .before .before .args .names)) = omega (arith, c .before .before .size .ensures) in
-    rw (le-ltb (length (listOf (c .before .before .before .args .names))) 3 n, c .all-differ .ensures)
+    let a = c .before .before .before .args in
+    let n : 3 ≤ length (listOf (a .names)) = omega (arith, c .before .before .size .ensures) in
+    rw (le-ltb (length (listOf (a .names))) 3 n, c .all-differ .ensures)
 
 pub is-malformed-spec : {M : Type 1} → statement M
 is-malformed-spec = tie.close (tie.spec size-requires returns all-differ-requires returns-2)

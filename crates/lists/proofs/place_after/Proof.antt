@@ -1,15 +1,9 @@
+-- `lists::place_after` meets its contract. By the test of the code. Assumes nothing.
 use borrow.Author.Needs.{needs}
 use Rattle.lists.proofs.place_after.Statement.{statement}
 use Rattle.lists.proofs.place_after.Tie as tie
-use Prim.Native.Nat.{ℕ, _+_, _-_, _≤_, _<_, min}
-use native.Mathlib.Omega.{arith}
-use mathlib.Core.Path.{_≡_, refl, ap, sym, _∙_}
-use mathlib.Core.Bool.{true, false, not}
-use mathlib.Core.List.{List, map}
-use lib.ListN.{length, getD, take, drop, set}
-use borrow.Author.Tests.{eq-eqb, ne-eqb, lt-ltb, le-ltb, not-true, not-false}
-use Rattle.rules.specs.Table.{has, distinct}
-use Rattle.rules.specs.Mesh.{placesOf, linksOf, listOf, findKey}
+use Prim.Native.Nat.{_-_}
+use borrow.Author.Tests.{eq-eqb, ne-eqb}
 
 add-if1 : tie.Need-add-if1
 add-if1 c = search needs

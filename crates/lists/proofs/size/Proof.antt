@@ -1,15 +1,8 @@
+-- `lists::size` meets its contract. As many as its length says, of 64 places. Assumes nothing.
 use borrow.Author.Needs.{needs}
 use Rattle.lists.proofs.size.Statement.{statement}
 use Rattle.lists.proofs.size.Tie as tie
-use Prim.Native.Nat.{ℕ, _+_, _-_, _≤_, _<_, min}
-use native.Mathlib.Omega.{arith}
-use mathlib.Core.Path.{_≡_, refl, ap, sym, _∙_}
-use mathlib.Core.Bool.{true, false, not}
-use mathlib.Core.List.{List, map}
-use lib.ListN.{length, getD, take, drop, set}
-use borrow.Author.Tests.{eq-eqb, ne-eqb, lt-ltb, le-ltb, not-true, not-false}
-use Rattle.rules.specs.Table.{has, distinct}
-use Rattle.rules.specs.Mesh.{placesOf, linksOf, listOf, findKey}
+use Prim.Native.Nat.{_-_}
 use Rattle.lists.proofs.Laws.{list-size}
 
 known-places-requires : tie.Need-known-places-requires

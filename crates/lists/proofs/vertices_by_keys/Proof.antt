@@ -1,15 +1,12 @@
+-- `lists::vertices_by_keys` meets its contract. The loop keeps what was made of the keys passed by; laws of Listing. Assumes nothing.
 use borrow.Author.Needs.{needs}
 use Rattle.lists.proofs.vertices_by_keys.Statement.{statement}
 use Rattle.lists.proofs.vertices_by_keys.Tie as tie
-use Prim.Native.Nat.{ℕ, _+_, _-_, _≤_, _<_, min}
+use Prim.Native.Nat.{_-_, _≤_}
 use native.Mathlib.Omega.{arith}
-use mathlib.Core.Path.{_≡_, refl, ap, sym, _∙_}
-use mathlib.Core.Bool.{true, false, not}
-use mathlib.Core.List.{List, map}
-use lib.ListN.{length, getD, take, drop, set}
-use borrow.Author.Tests.{eq-eqb, ne-eqb, lt-ltb, le-ltb, not-true, not-false}
-use Rattle.rules.specs.Table.{has, distinct}
-use Rattle.rules.specs.Mesh.{placesOf, linksOf, listOf, findKey}
+use mathlib.Core.Path.{_≡_, refl, ap, _∙_}
+use lib.ListN.{getD}
+use Rattle.rules.specs.Mesh.{placesOf, listOf, findKey}
 use Rattle.walks.proofs.Listing.{Made, made-more}
 use Rattle.lists.proofs.Laws.{made-list}
 
@@ -49,17 +46,19 @@ loop-less c = search needs
 
 loop-again : tie.Need-loop-again Inv-loop μ-loop
 loop-again c =
+    let a = c .before .before .before .before .before .before .args in
     let l = c .before .before .before in
     let size = c .before .before .before .before .before .size .ensures in
     let few = c .before .before .before .before .known-few .ensures in
-    let found : c .find-key2 .result ≡ findKey (c .before .before .before .before .before .before .args .vertices .now) (getD (listOf (c .before .before .before .before .before .before .args .keys)) (l .loop .i) 0) = c .find-key2 .ensures ∙ ap (findKey (c .before .before .before .before .before .before .args .vertices .now)) (c .before .item .ensures) in
-    (search needs, made-more (findKey (c .before .before .before .before .before .before .args .vertices .now)) (listOf (c .before .before .before .before .before .before .args .keys)) (l .loop .at) (l .loop .i) (c .find-key2 .result) (omega (arith, size)) few found (l .loop .inv .1))
+    let found : c .find-key2 .result ≡ findKey (a .vertices .now) (getD (listOf (a .keys)) (l .loop .i) 0) = c .find-key2 .ensures ∙ ap (findKey (a .vertices .now)) (c .before .item .ensures) in
+    (search needs, made-more (findKey (a .vertices .now)) (listOf (a .keys)) (l .loop .at) (l .loop .i) (c .find-key2 .result) (omega (arith, size)) few found (l .loop .inv .1))
 
 returns : tie.Need-returns Inv-loop μ-loop
 returns c =
+    let a = c .before .before .before .before .args in
     let l = c .before in
     let all : l .loop .i ≡ c .before .before .before .size .result = omega (arith, c .before .before .before .size .ensures) in
-    made-list (findKey (c .before .before .before .before .args .vertices .now)) (listOf (c .before .before .before .before .args .keys)) (l .loop .at) (c .before .before .before .size .result) (c .before .before .before .size .ensures) (rw all at (l .loop .inv .1))
+    made-list (findKey (a .vertices .now)) (listOf (a .keys)) (l .loop .at) (c .before .before .before .size .result) (c .before .before .before .size .ensures) (rw all at (l .loop .inv .1))
 
 pub vertices-by-keys-spec : {M : Type 1} → statement M
 vertices-by-keys-spec =
