@@ -1,0 +1,24 @@
+use borrow.Author.Tests.{eq-eqb, ne-eqb}
+use borrow.Author.Needs.{needs}
+use Rattle.sound.proofs.blanks.blank3.Statement.{statement}
+use Rattle.sound.proofs.blanks.blank3.Tie as tie
+
+array-read-if1 : tie.Need-array-read-if1
+array-read-if1 c = search needs
+
+returns : tie.Need-returns
+returns c = rw (ne-eqb _ _ (c .if1 .taken))
+
+slice-aggregate-zero-cells : tie.Need-slice-aggregate-zero-cells
+slice-aggregate-zero-cells c = search needs
+
+zero-cells-requires : tie.Need-zero-cells-requires
+zero-cells-requires c κs = search needs
+
+returns-2 : tie.Need-returns-2
+returns-2 c = rw (eq-eqb _ _ (c .before .before .if1 .left)) (c .zero-cells .ensures)
+
+pub blank3-spec : {M : Type 1} → statement M
+blank3-spec =
+    tie.close
+    (tie.spec array-read-if1 returns slice-aggregate-zero-cells zero-cells-requires returns-2)

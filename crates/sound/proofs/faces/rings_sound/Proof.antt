@@ -1,0 +1,110 @@
+use Prim.Native.Nat.{_-_, _≤_}
+use native.Mathlib.Omega.{arith}
+use mathlib.Core.Path.{refl, sym, _∙_}
+use mathlib.Core.Logic.{⊎-elim}
+use lib.ListN.{length}
+use Rattle.proved.proofs.Rows.{true-T, cell-row}
+use Rattle.sound.proofs.RingSums.{bare, bare-exists, bare-rings, Going, going-start, going-unused, going-used, going-end, length-fails, sum-fails}
+use borrow.Author.Needs.{needs}
+use Rattle.sound.proofs.faces.rings_sound.Statement.{statement}
+use Rattle.sound.proofs.faces.rings_sound.Tie as tie
+
+abbrev Inv-loop : tie.InvT-loop
+Inv-loop arcs faces left₀ i₀ left i = (i ≤ length faces) × Going (bare arcs faces) left i
+
+abbrev μ-loop : tie.MeasureT-loop
+μ-loop arcs faces left₀ i₀ left i = length faces - i
+
+count-held-requires : tie.Need-count-held-requires Inv-loop μ-loop
+count-held-requires c κs = search needs
+
+loop-holds : tie.Need-loop-holds Inv-loop μ-loop
+loop-holds c = (search needs, going-start (bare (c .before .args .arcs .now) (c .before .args .faces .now)) (c .count-held .result) (c .count-held .ensures))
+
+mul-if1 : tie.Need-mul-if1 Inv-loop μ-loop
+mul-if1 c = search needs
+
+index-1-if1 : tie.Need-index-1-if1 Inv-loop μ-loop
+index-1-if1 c = search needs
+
+index-2-if1 : tie.Need-index-2-if1 Inv-loop μ-loop
+index-2-if1 c = search needs
+
+mul-ring-length : tie.Need-mul-ring-length Inv-loop μ-loop
+mul-ring-length c = search needs
+
+index-1-ring-length : tie.Need-index-1-ring-length Inv-loop μ-loop
+index-1-ring-length c = search needs
+
+index-2-ring-length : tie.Need-index-2-ring-length Inv-loop μ-loop
+index-2-ring-length c = search needs
+
+add-ring-length : tie.Need-add-ring-length Inv-loop μ-loop
+add-ring-length c = search needs
+
+ring-length-requires : tie.Need-ring-length-requires Inv-loop μ-loop
+ring-length-requires c κs = search needs
+
+returns : tie.Need-returns Inv-loop μ-loop
+returns c =
+    let l = c .before .before .before .before .before .before in
+    let a = l .before .before .args in
+    let m = bare (a .arcs .now) (a .faces .now) in
+    let g = l .loop .inv .1 in
+    λ v p e k fe. length-fails m (l .loop .left) (l .loop .i) g (c .before .ring-length .result) (c .before .before .before .if1 .taken) (c .before .ring-length .ensures m refl (cell-row (a .faces .now) (l .loop .i) 1)) (c .if2 .taken) ∙ sym (bare-rings v p (a .arcs .now) e (a .faces .now) k)
+
+returns-2 : tie.Need-returns-2 Inv-loop μ-loop
+returns-2 c =
+    let l = c .before .before .before .before .before .before .before in
+    let a = l .before .before .args in
+    let m = bare (a .arcs .now) (a .faces .now) in
+    let g = l .loop .inv .1 in
+    λ v p e k fe. sum-fails m (l .loop .left) (l .loop .i) g (c .before .before .ring-length .result) (c .before .before .before .before .if1 .taken) (c .before .before .ring-length .ensures m refl (cell-row (a .faces .now) (l .loop .i) 1)) (c .before .if2 .left) (true-T (sym (bare-exists v p (a .arcs .now) e (a .faces .now) k) ∙ fe)) (omega arith) (omega arith) ∙ sym (bare-rings v p (a .arcs .now) e (a .faces .now) k)
+
+add-i : tie.Need-add-i Inv-loop μ-loop
+add-i c = search needs
+
+loop-less : tie.Need-loop-less Inv-loop μ-loop
+loop-less c = search needs
+
+loop-again : tie.Need-loop-again Inv-loop μ-loop
+loop-again c =
+    let l = c .before .before .before in
+    let a = l .before .before .args in
+    let m = bare (a .arcs .now) (a .faces .now) in
+    let g = l .loop .inv .1 in
+    ⊎-elim
+    (λ w. (search needs, going-used m (l .loop .left) (l .loop .i) g (w .2 .result) (w .0 .taken) (w .2 .ensures m refl (cell-row (a .faces .now) (l .loop .i) 1)) (w .3 .left) (c .if1 .left) (omega arith) (omega arith)))
+    (λ w. (search needs, going-unused m (l .loop .left) (l .loop .i) g (c .if1 .left) (w .1) (w .0 .left)))
+    (c .if1 .came)
+
+returns-3 : tie.Need-returns-3 Inv-loop μ-loop
+returns-3 c =
+    let l = c .before in
+    let a = l .before .before .args in
+    let m = bare (a .arcs .now) (a .faces .now) in
+    let g = l .loop .inv .1 in
+    λ v p e k fe. going-end m (l .loop .left) (l .loop .i) g (true-T (sym (bare-exists v p (a .arcs .now) e (a .faces .now) k) ∙ fe)) (omega arith) (omega arith) ∙ sym (bare-rings v p (a .arcs .now) e (a .faces .now) k)
+
+pub rings-sound-spec : {M : Type 1} → statement M
+rings-sound-spec =
+    tie.close
+    (tie.spec
+    Inv-loop
+    μ-loop
+    count-held-requires
+    loop-holds
+    mul-if1
+    index-1-if1
+    index-2-if1
+    mul-ring-length
+    index-1-ring-length
+    index-2-ring-length
+    add-ring-length
+    ring-length-requires
+    returns
+    returns-2
+    add-i
+    loop-less
+    loop-again
+    returns-3)

@@ -1,0 +1,16 @@
+use borrow.Author.Tests.{eq-eqb, ne-eqb}
+use borrow.Author.Needs.{needs}
+use Rattle.sound.proofs.keys.key_below.Statement.{statement}
+use Rattle.sound.proofs.keys.key_below.Tie as tie
+
+returns : tie.Need-returns
+returns c = rw (eq-eqb _ _ (c .if1 .taken))
+
+sub-result : tie.Need-sub-result
+sub-result c = search needs
+
+returns-2 : tie.Need-returns-2
+returns-2 c = rw (ne-eqb _ _ (c .if1 .left))
+
+pub key-below-spec : {M : Type 1} → statement M
+key-below-spec = tie.close (tie.spec returns sub-result returns-2)

@@ -1,0 +1,32 @@
+use mathlib.Core.Path.{sym, _∙_}
+use borrow.Author.Tests.{not-true, not-false}
+use Rattle.rules.specs.Sound.{keysDiffer}
+use borrow.Author.Needs.{needs}
+use Rattle.sound.proofs.keys.keys_differ.Statement.{statement}
+use Rattle.sound.proofs.keys.keys_differ.Tie as tie
+
+differ2-requires : tie.Need-differ2-requires
+differ2-requires c κs = search needs
+
+returns : tie.Need-returns
+unfolding keysDiffer
+returns c = λ p a k. rw (sym (c .before .differ2 .ensures) ∙ not-true _ (c .if1 .taken))
+
+differ3-requires : tie.Need-differ3-requires
+differ3-requires c κs = search needs
+
+returns-2 : tie.Need-returns-2
+unfolding keysDiffer
+returns-2 c = λ p a k. rw (sym (c .before .before .before .differ2 .ensures) ∙ not-false _ (c .before .before .if1 .left), sym (c .before .differ3 .ensures) ∙ not-true _ (c .if2 .taken))
+
+differ3-requires-2 : tie.Need-differ3-requires-2
+differ3-requires-2 c κs = search needs
+
+returns-3 : tie.Need-returns-3
+unfolding keysDiffer
+returns-3 c = λ p a k. rw (sym (c .before .before .before .before .differ2 .ensures) ∙ not-false _ (c .before .before .before .if1 .left), sym (c .before .before .differ3 .ensures) ∙ not-false _ (c .before .if2 .left)) (c .differ32 .ensures)
+
+pub keys-differ-spec : {M : Type 1} → statement M
+keys-differ-spec =
+    tie.close
+    (tie.spec differ2-requires returns differ3-requires returns-2 differ3-requires-2 returns-3)

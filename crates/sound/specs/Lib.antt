@@ -1,0 +1,4 @@
+pub mod Tests
+pub mod Keys
+pub mod Rings
+pub mod Parts

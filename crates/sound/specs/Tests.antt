@@ -1,0 +1,48 @@
+-- The test of one row for each clause of Sound, on the cells of the row as the code reads them. An unused row passes.
+-- A row's own link comes last, where the clause asks for it.
+use Prim.Native.Nat.{ℕ}
+use mathlib.Core.Bool.{Bool, not, _&&_, _||_}
+use mathlib.Core.List.{List}
+use lib.ListN.{getD}
+use lib.Dec.{eqb}
+use Rattle.rules.specs.Table.{Table, cell, there, used}
+use Rattle.rules.specs.Mesh.{arcBetween}
+use Rattle.rules.specs.Sound.{unlessNone}
+
+-- ---- edges and arcs
+
+unfoldable pub bothRow : Table → List ℕ → ℕ → Bool
+bothRow arcs r e =
+    let x = getD r 1 0 in
+    let y = getD r 2 0 in
+    not (used r)
+    || (there arcs x
+    && (there arcs y
+    && (eqb (cell arcs x 5) e && (eqb (cell arcs y 5) e && (eqb (cell arcs x 0) (cell arcs y 1) && eqb (cell arcs x 1) (cell arcs y 0))))))
+
+unfoldable pub differRow : List ℕ → Bool
+differRow r = not (used r) || not (eqb (getD r 0 0) (getD r 1 0))
+
+unfoldable pub existRow : Table → List ℕ → Bool
+existRow vertices r = not (used r) || (there vertices (getD r 0 0) && there vertices (getD r 1 0))
+
+unfoldable pub pairRow : Table → List ℕ → ℕ → Bool
+pairRow arcs r x = not (used r) || eqb (arcBetween arcs (getD r 0 0) (getD r 1 0)) x
+
+unfoldable pub joinsRow : Table → List ℕ → ℕ → Bool
+joinsRow edges r x =
+    not (used r) || (there edges (getD r 5 0) && (eqb (cell edges (getD r 5 0) 1) x || eqb (cell edges (getD r 5 0) 2) x))
+
+-- ---- links
+
+unfoldable pub leadsRow : Table → List ℕ → ℕ → Bool
+leadsRow arcs r v = not (used r) || unlessNone (getD r 1 0) (there arcs (getD r 1 0) && eqb (cell arcs (getD r 1 0) 0) v)
+
+unfoldable pub nextRow : Table → List ℕ → Bool
+nextRow arcs r = not (used r) || unlessNone (getD r 2 0) (there arcs (getD r 2 0) && eqb (cell arcs (getD r 2 0) 0) (getD r 1 0))
+
+unfoldable pub previousRow : Table → List ℕ → Bool
+previousRow arcs r = not (used r) || unlessNone (getD r 3 0) (there arcs (getD r 3 0) && eqb (cell arcs (getD r 3 0) 1) (getD r 0 0))
+
+unfoldable pub faceRow : Table → List ℕ → Bool
+faceRow faces r = not (used r) || unlessNone (getD r 4 0) (there faces (getD r 4 0))

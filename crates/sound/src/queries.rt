@@ -1,0 +1,208 @@
+// All of "Sound means" in one answer, and the three queries: check_sound, check_finished, face_arity. They change nothing and need no room.
+// It carries document 01's answers 1 ("a table is unsound or over the limit"), 3 of the finished check and 4 of an unknown face.
+
+use crate::blanks;
+use crate::edges;
+use crate::faces;
+use crate::keys;
+use crate::links;
+use rules::Answer;
+use rules::ArcRow;
+use rules::EdgeRow;
+use rules::FaceRow;
+use rules::PositionRow;
+use rules::Refusal;
+use rules::VertexRow;
+use tables::rows;
+use tables::sets;
+use walks::rings;
+ghost use mathlib.Core.Path.{_≡_};
+ghost use mathlib.Core.Bool.{not};
+ghost use mathlib.Core.List.{List};
+ghost use Prim.Native.Nat.{ℕ, _≤_};
+ghost use lib.ListN.{length};
+ghost use lib.Ieee.{Float};
+ghost use Rattle.rules.specs.Table.{every};
+ghost use Rattle.rules.specs.Mesh.{Mesh, mesh, faceArc};
+ghost use Rattle.rules.specs.Link as Link;
+ghost use Rattle.rules.specs.Sound.{sound};
+ghost use Rattle.rules.specs.Call.{checkSound, checkFinished, faceArity, leadless};
+ghost use Rattle.sound.specs.Parts.{rowsSound, linksSound};
+
+// ---- soundness, the cheapest first
+
+// Sizes, and what one pass over each table tells.
+fn rows_sound(
+    vertices: &[VertexRow],
+    positions: &[PositionRow],
+    arcs: &[ArcRow],
+    edges: &[EdgeRow],
+    faces: &[FaceRow],
+    counters: &[u32; 3],
+) -> bool
+    ensures { λ r. ⌜ r ≡ rowsSound (mesh (now (vertices .entry)) (now (positions .entry)) (now (arcs .entry)) (now (edges .entry)) (now (faces .entry)) (now (counters .entry))) ⌝ }
+{
+    if !sets::within_limits(vertices, positions, arcs, edges, faces) {
+        return false;
+    }
+    if !keys::keys_below(vertices, edges, faces, counters) {
+        return false;
+    }
+    if !blanks::all_finite(positions) {
+        return false;
+    }
+    blanks::rest_zero(vertices, positions, arcs, edges, faces)
+}
+
+// What one pass along the links tells.
+fn links_sound(
+    vertices: &[VertexRow],
+    arcs: &[ArcRow],
+    edges: &[EdgeRow],
+    faces: &[FaceRow],
+) -> bool
+    ensures { λ r. ⌜ ((p : List (List Float)) (k : List ℕ) → r ≡ linksSound (mesh (now (vertices .entry)) p (now (arcs .entry)) (now (edges .entry)) (now (faces .entry)) k)) ⌝ }
+{
+    if !edges::ends_differ(arcs) {
+        return false;
+    }
+    if !edges::ends_exist(vertices, arcs) {
+        return false;
+    }
+    if !edges::both_arcs(arcs, edges) {
+        return false;
+    }
+    if !edges::edge_joins(arcs, edges) {
+        return false;
+    }
+    if !links::leads_out(vertices, arcs) {
+        return false;
+    }
+    if !links::next_leaves(arcs) {
+        return false;
+    }
+    if !links::previous_arrives(arcs) {
+        return false;
+    }
+    links::face_exists(arcs, faces)
+}
+
+// Whether the tables are sound: sizes, passes, rings, and last what may compare rows with rows.
+pub fn is_sound(
+    vertices: &[VertexRow],
+    positions: &[PositionRow],
+    arcs: &[ArcRow],
+    edges: &[EdgeRow],
+    faces: &[FaceRow],
+    counters: &[u32; 3],
+) -> bool
+    ensures { λ r. ⌜ r ≡ sound (mesh (now (vertices .entry)) (now (positions .entry)) (now (arcs .entry)) (now (edges .entry)) (now (faces .entry)) (now (counters .entry))) ⌝ }
+{
+    if !rows_sound(vertices, positions, arcs, edges, faces, counters) {
+        return false;
+    }
+    if !links_sound(vertices, arcs, edges, faces) {
+        return false;
+    }
+    if !faces::rings_sound(arcs, faces) {
+        return false;
+    }
+    if !keys::keys_differ(vertices, edges, faces) {
+        return false;
+    }
+    edges::pairs_differ(arcs)
+}
+
+// ---- the queries
+
+// Done for sound tables, else 1.
+pub fn check_sound(
+    vertices: &[VertexRow],
+    positions: &[PositionRow],
+    arcs: &[ArcRow],
+    edges: &[EdgeRow],
+    faces: &[FaceRow],
+    counters: &[u32; 3],
+) -> Answer
+    ensures { λ r. ⌜ r ≡ checkSound (mesh (now (vertices .entry)) (now (positions .entry)) (now (arcs .entry)) (now (edges .entry)) (now (faces .entry)) (now (counters .entry))) ⌝ }
+{
+    if is_sound(vertices, positions, arcs, edges, faces, counters) {
+        return Answer::Done;
+    }
+    Answer::Refused(Refusal::Tables)
+}
+
+// Whether a row is no vertex without a leading arc.
+fn leads(row: VertexRow) -> bool
+    ensures { λ r. ⌜ r ≡ not (leadless row) ⌝ }
+{
+    if row[0] == 0 {
+        return true;
+    }
+    row[1] != 0
+}
+
+fn all_lead(vertices: &[VertexRow]) -> bool
+    ensures { λ r. ⌜ r ≡ every (λ x. not (leadless x)) (now (vertices .entry)) ⌝ }
+{
+    let mut i = 0;
+    while i < vertices.len() {
+        if !leads(vertices[i]) {
+            return false;
+        }
+        i += 1;
+    }
+    true
+}
+
+// 3 if some vertex has no leading arc, else done, whatever the vertices hold.
+pub fn check_finished(vertices: &[VertexRow]) -> Answer
+    ensures { λ r. ⌜ r ≡ checkFinished (now (vertices .entry)) ⌝ }
+{
+    if all_lead(vertices) {
+        return Answer::Done;
+    }
+    Answer::Refused(Refusal::TopologyMalformed)
+}
+
+// How many arcs the ring from an arc has, as a number of an answer.
+fn arity_from(arcs: &[ArcRow], first: u32) -> u32
+    ensures { λ r. ⌜ ((m : Mesh) (f : ℕ) → m .arcs ≡ now (arcs .entry) → faceArc m f ≡ first → r ≡ length (Link.ring m f)) ⌝ }
+{
+    let walk = rings::ring(arcs, first);
+    let ring = walk.links;
+    let n = ring.len;
+    narrow(n)
+}
+
+// A length of at most 64 as a number of a cell.
+fn narrow(n: usize) -> u32
+    ensures { λ r. ⌜ (n ≤ 64 → r ≡ n) ⌝ }
+{
+    if n > 64 {
+        return 0;
+    }
+    n as u32
+}
+
+// 1 for unsound tables, 4 for a key that no face has, else the length of its ring.
+pub fn face_arity(
+    vertices: &[VertexRow],
+    positions: &[PositionRow],
+    arcs: &[ArcRow],
+    edges: &[EdgeRow],
+    faces: &[FaceRow],
+    counters: &[u32; 3],
+    face: u32,
+) -> Answer
+    ensures { λ r. ⌜ r ≡ faceArity (mesh (now (vertices .entry)) (now (positions .entry)) (now (arcs .entry)) (now (edges .entry)) (now (faces .entry)) (now (counters .entry))) face ⌝ }
+{
+    if !is_sound(vertices, positions, arcs, edges, faces, counters) {
+        return Answer::Refused(Refusal::Tables);
+    }
+    let f = rows::find_key3(faces, face);
+    if f == 0 {
+        return Answer::Refused(Refusal::TopologyNotFound);
+    }
+    Answer::Arity(arity_from(arcs, rows::cell3(faces, f, 1)))
+}
