@@ -1,0 +1,5 @@
+pub mod Below
+pub mod Pairs
+pub mod Bounds
+pub mod Stretches
+pub mod Splits

@@ -1,0 +1,103 @@
+-- The pairs of a perimeter: past its end there is no arc; the tests that the loops make at a pair; and the list of corners.
+use Prim.Native.Nat.{ℕ, zero, suc, _+_, _≤_, _<_}
+use native.Mathlib.Omega.{arith}
+use mathlib.Core.Path.{_≡_, refl, ap, sym, _∙_}
+use mathlib.Core.Bool.{Bool, true, false, not, _&&_, _||_, cond}
+use mathlib.Core.List.{List, map}
+use lib.ListN.{length, getD, length-map, List·getD-eq-default}
+use lib.Dec.{eqb}
+use Rattle.rules.specs.declared.Links.{Links}
+use Rattle.rules.specs.declared.Edit.{Edit}
+use Rattle.rules.specs.declared.Edit.the-variants.{FaceInsert}
+use borrow.Author.Tests.{eq-eqb, ne-eqb, leb-true}
+use native.Mathlib.Decide.{ℕ-discrete}
+use Rattle.rules.specs.Table.{cell, has, after}
+use Rattle.rules.specs.Mesh.{Mesh, dest, next, face, arcBetween, findKey, linksOf, listOf}
+use Rattle.rules.specs.Insert.{arcAt, hasFace, leadsBack}
+use Rattle.rules.specs.Edit.{corners}
+use Rattle.rules.specs.Call.{given, byKeys}
+use Rattle.rules.proofs.Places.{list-back}
+
+pub arc-past : (m : Mesh) (per : List ℕ) (i : ℕ) → length per ≤ i → arcAt m per i ≡ 0
+unfolding arcAt arcBetween
+arc-past m per i h = rw (List·getD-eq-default per 0 h)
+
+-- the place after one on a ring is on it
+pub after-on : (n i j : ℕ) → i < n → j ≡ after n i → j < n
+after-on n i j h e = go (ℕ-discrete (i + 1) n)
+  where
+    go : Dec (i + 1 ≡ n) → j < n
+    go (yes q) = omega (arith, rw (eq-eqb _ _ q) at e)
+    go (no nq) = omega (arith, rw (ne-eqb _ _ nq) at e)
+
+-- ---- what is asked at pair i
+
+abbrev pub clash : Mesh → List ℕ → ℕ → Bool
+clash m per i = hasFace m per i || leadsBack m per i
+
+abbrev pub taken : Mesh → ℕ → List ℕ → ℕ → Bool
+taken m f per i = hasFace m per i && not (eqb (face m (arcAt m per i)) f)
+
+abbrev pub missing : Mesh → List ℕ → ℕ → ℕ
+missing m per i = cond (eqb (arcAt m per i) 0) 1 0
+
+pub face-of-arc : (m : Mesh) (per : List ℕ) (i x : ℕ) (r : Bool) → x ≡ arcAt m per i → r ≡ (not (eqb x 0) && not (eqb (cell (m .arcs) x 4) 0)) → r ≡ hasFace m per i
+unfolding hasFace
+face-of-arc m per i x r e h = rw (← e) h
+
+-- the arc of pair i of four corners
+pub arc-of-four : (m : Mesh) (four : List ℕ) (i j x : ℕ) → length four ≡ 4 → j ≡ after 4 i → x ≡ arcBetween (m .arcs) (getD four i 0) (getD four j 0) → x ≡ arcAt m four i
+unfolding arcAt
+arc-of-four m four i j x n e h = h ∙ rw (n, e)
+
+-- whether it leads back: one law for each way out of the code. x is its arc, w its follower and y its next
+module _ (m : Mesh) (per : List ℕ) (i : ℕ) where
+  pub back-past : length per ≤ i → false ≡ leadsBack m per i
+  unfolding leadsBack
+  back-past h = rw (arc-past m per i h)
+
+  module _ {x : ℕ} (ex : x ≡ arcAt m per i) where
+    pub back-none : x ≡ 0 → false ≡ leadsBack m per i
+    unfolding leadsBack
+    back-none e = rw (← ex, eq-eqb x 0 e)
+
+    module _ (there : x ≡ 0 → ⊥) {n j w : ℕ} (en : n ≡ length per) (ej : j ≡ after n i) (ew : w ≡ arcAt m per j) where
+      follower : w ≡ arcAt m per (after (length per) i)
+      follower = ew ∙ ap (arcAt m per) (ej ∙ ap (λ (k : ℕ). after k i) en)
+
+      pub back-followed : (w ≡ 0 → ⊥) → false ≡ leadsBack m per i
+      unfolding leadsBack
+      back-followed e = rw (← ex, ne-eqb x 0 there, ← follower, ne-eqb w 0 e)
+
+      module _ (absent : w ≡ 0) {y : ℕ} (ey : y ≡ next m x) where
+        pub back-ends : y ≡ 0 → false ≡ leadsBack m per i
+        unfolding leadsBack
+        back-ends e = rw (← ex, ne-eqb x 0 there, ← follower, eq-eqb w 0 absent, ← ey, eq-eqb y 0 e)
+
+        pub back-leads : (y ≡ 0 → ⊥) → {z : ℕ} → z ≡ dest m y → {r : Bool} → r ≡ has per z → r ≡ leadsBack m per i
+        unfolding leadsBack
+        back-leads on ez h = rw (← ex, ne-eqb x 0 there, ← follower, eq-eqb w 0 absent, ← ey, ne-eqb y 0 on, ← ez) h
+
+-- ---- lists as the code holds them
+
+pub corners-size : (m : Mesh) (x y : ℕ) → length (corners m x y) ≡ 4
+unfolding corners
+corners-size m x y = refl
+
+pub corners-back : (m : Mesh) (x y : ℕ) (l : Links) → l ≡ linksOf (corners m x y) → listOf l ≡ corners m x y
+corners-back m x y l e = ap listOf e ∙ list-back (corners m x y) (omega (arith, corners-size m x y))
+
+-- what the caller gave is checked first, so a face insert has at most 64 keys
+pub given-few : (e : Edit) (keys : List ℕ) → given e keys ≡ true → (mark : ℕ) → e ≡ FaceInsert mark → length keys ≤ 64
+unfolding given
+given-few e keys h mark q = leb-true (length keys) 64 (rw q at h)
+
+module _ (m : Mesh) (keys : List ℕ) (few : length keys ≤ 64) (names : Links) (e : names ≡ linksOf keys) where
+  pub names-back : listOf names ≡ keys
+  names-back = ap listOf e ∙ list-back keys few
+
+  pub per-back : (per : Links) → per ≡ linksOf (map (findKey (m .vertices)) (listOf names)) → listOf per ≡ byKeys m keys
+  unfolding byKeys
+  per-back per h =
+      let same : per ≡ linksOf (map (findKey (m .vertices)) keys) = rw names-back at h in
+      ap listOf same ∙ list-back (map (findKey (m .vertices)) keys) (omega (arith, length-map keys (findKey (m .vertices))))

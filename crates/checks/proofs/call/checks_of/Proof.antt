@@ -1,0 +1,189 @@
+-- `checks::call::checks_of` meets its contract. Each arm by its variant and what its callee ensures. Assumes nothing.
+use borrow.Author.Needs.{needs}
+use Rattle.checks.proofs.call.checks_of.Statement.{statement}
+use Rattle.checks.proofs.call.checks_of.Tie as tie
+use Prim.Native.Nat.{_-_}
+use mathlib.Core.Path.{_≡_, ap, _∙_}
+use Rattle.rules.specs.Mesh.{listOf}
+use Rattle.rules.specs.Call.{checks}
+use Rattle.rules.proofs.Places.{list-back}
+
+enum-told : tie.Need-enum-told
+enum-told c = search needs
+
+enum-told-2 : tie.Need-enum-told-2
+enum-told-2 c = search needs
+
+from-keys-requires : tie.Need-from-keys-requires
+from-keys-requires c κs = search needs
+
+by-keys-requires : tie.Need-by-keys-requires
+by-keys-requires c κs = search needs
+
+insert-checks-requires : tie.Need-insert-checks-requires
+insert-checks-requires c κs = search needs
+
+enum-known-edit : tie.Need-enum-known-edit
+enum-known-edit c = search needs
+
+find-key3-requires : tie.Need-find-key3-requires
+find-key3-requires c κs = search needs
+
+known-requires : tie.Need-known-requires
+known-requires c κs = search needs
+
+enum-known-edit-2 : tie.Need-enum-known-edit-2
+enum-known-edit-2 c = search needs
+
+find-key2-requires : tie.Need-find-key2-requires
+find-key2-requires c κs = search needs
+
+find-key2-requires-2 : tie.Need-find-key2-requires-2
+find-key2-requires-2 c κs = search needs
+
+find-key3-requires-2 : tie.Need-find-key3-requires-2
+find-key3-requires-2 c κs = search needs
+
+split-checks-requires : tie.Need-split-checks-requires
+split-checks-requires c κs = search needs
+
+enum-known-edit-3 : tie.Need-enum-known-edit-3
+enum-known-edit-3 c = search needs
+
+find-key3-requires-3 : tie.Need-find-key3-requires-3
+find-key3-requires-3 c κs = search needs
+
+known-requires-2 : tie.Need-known-requires-2
+known-requires-2 c κs = search needs
+
+enum-known-edit-4 : tie.Need-enum-known-edit-4
+enum-known-edit-4 c = search needs
+
+find-key3-requires-4 : tie.Need-find-key3-requires-4
+find-key3-requires-4 c κs = search needs
+
+find-key3-requires-5 : tie.Need-find-key3-requires-5
+find-key3-requires-5 c κs = search needs
+
+bridge-checks-requires : tie.Need-bridge-checks-requires
+bridge-checks-requires c κs = search needs
+
+enum-known-edit-5 : tie.Need-enum-known-edit-5
+enum-known-edit-5 c = search needs
+
+find-key3-requires-6 : tie.Need-find-key3-requires-6
+find-key3-requires-6 c κs = search needs
+
+known-requires-3 : tie.Need-known-requires-3
+known-requires-3 c κs = search needs
+
+enum-known-edit-6 : tie.Need-enum-known-edit-6
+enum-known-edit-6 c = search needs
+
+arc-by-keys-requires : tie.Need-arc-by-keys-requires
+arc-by-keys-requires c κs = search needs
+
+arc-by-keys-requires-2 : tie.Need-arc-by-keys-requires-2
+arc-by-keys-requires-2 c κs = search needs
+
+arc-bridge-checks-requires : tie.Need-arc-bridge-checks-requires
+arc-bridge-checks-requires c κs = search needs
+
+enum-known-edit-7 : tie.Need-enum-known-edit-7
+enum-known-edit-7 c = search needs
+
+arc-by-keys-requires-3 : tie.Need-arc-by-keys-requires-3
+arc-by-keys-requires-3 c κs = search needs
+
+arc-extrude-checks-requires : tie.Need-arc-extrude-checks-requires
+arc-extrude-checks-requires c κs = search needs
+
+returns : tie.Need-returns
+unfolding checks
+returns c = λ few ps es ks. rw (c .enum-told .given .1)
+
+returns-2 : tie.Need-returns-2
+unfolding checks
+returns-2 c =
+    let a = c .before .before .before .before .before .before .args in
+    λ few ps es ks.
+    let short = few _ (c .before .before .before .enum-told2 .given .1) in
+    let names : listOf (c .before .before .from-keys .result) ≡ a .keys .now = ap listOf (c .before .before .from-keys .ensures) ∙ list-back (a .keys .now) short in
+    let per = c .before .by-keys .ensures short ps (a .arcs .now) es (a .faces .now) ks in
+    rw (c .before .before .before .enum-told2 .given .1, ← per, ← names) (c .insert-checks .ensures (a .vertices .now) ps es (a .faces .now) ks)
+
+returns-3 : tie.Need-returns-3
+unfolding checks
+returns-3 c = λ few ps es ks. rw (c .before .before .before .edit .given .1, ← c .before .find-key3 .ensures) (c .known .ensures)
+
+returns-4 : tie.Need-returns-4
+unfolding checks
+returns-4 c = λ few ps es ks. rw (c .before .before .before .before .before .edit2 .given .1, ← c .before .find-key32 .ensures, ← c .before .before .before .find-key2 .ensures, ← c .before .before .find-key22 .ensures) (c .split-checks .ensures (c .before .before .before .before .before .before .before .before .args .vertices .now) ps es ks)
+
+returns-5 : tie.Need-returns-5
+unfolding checks
+returns-5 c = λ few ps es ks. rw (c .before .before .before .edit3 .given .1, ← c .before .find-key33 .ensures) (c .known2 .ensures)
+
+returns-6 : tie.Need-returns-6
+unfolding checks
+returns-6 c = λ few ps es ks. rw (c .before .before .before .before .edit4 .given .1, ← c .before .before .find-key34 .ensures, ← c .before .find-key35 .ensures) (c .bridge-checks .ensures (c .before .before .before .before .before .before .before .args .vertices .now) ps es ks)
+
+returns-7 : tie.Need-returns-7
+unfolding checks
+returns-7 c = λ few ps es ks. rw (c .before .before .before .edit5 .given .1, ← c .before .find-key36 .ensures) (c .known3 .ensures)
+
+returns-8 : tie.Need-returns-8
+unfolding checks
+returns-8 c =
+    let a = c .before .before .before .before .before .before .before .args in
+    λ few ps es ks. rw (c .before .before .before .before .edit6 .given .1, ← c .before .before .arc-by-keys .ensures ps es (a .faces .now) ks, ← c .before .arc-by-keys2 .ensures ps es (a .faces .now) ks) (c .arc-bridge-checks .ensures (a .vertices .now) ps es (a .faces .now) ks)
+
+returns-9 : tie.Need-returns-9
+unfolding checks
+returns-9 c =
+    let a = c .before .before .before .before .before .before .args in
+    λ few ps es ks. rw (c .before .before .before .edit7 .given .1, ← c .before .arc-by-keys3 .ensures ps es (a .faces .now) ks) (c .arc-extrude-checks .ensures (a .vertices .now) ps es (a .faces .now) ks)
+
+pub checks-of-spec : {M : Type 1} → statement M
+checks-of-spec =
+    tie.close
+    (tie.spec
+    enum-told
+    enum-told-2
+    from-keys-requires
+    by-keys-requires
+    insert-checks-requires
+    enum-known-edit
+    find-key3-requires
+    known-requires
+    enum-known-edit-2
+    find-key2-requires
+    find-key2-requires-2
+    find-key3-requires-2
+    split-checks-requires
+    enum-known-edit-3
+    find-key3-requires-3
+    known-requires-2
+    enum-known-edit-4
+    find-key3-requires-4
+    find-key3-requires-5
+    bridge-checks-requires
+    enum-known-edit-5
+    find-key3-requires-6
+    known-requires-3
+    enum-known-edit-6
+    arc-by-keys-requires
+    arc-by-keys-requires-2
+    arc-bridge-checks-requires
+    enum-known-edit-7
+    arc-by-keys-requires-3
+    arc-extrude-checks-requires
+    returns
+    returns-2
+    returns-3
+    returns-4
+    returns-5
+    returns-6
+    returns-7
+    returns-8
+    returns-9)

@@ -1,0 +1,111 @@
+// The checks of an arc bridge and of a bridge. Document 01's rule 8, "Unknown arcs 4; the four corners (a,b,c,d) stand together as one value; an
+// existing arc among their pairs that has a face, 5", and rule 9, "Destination lookup, then arity, 6"; a face with itself is 4, after 6.
+
+use crate::insert;
+use crate::rings;
+use rules::Answer;
+use rules::ArcRow;
+use rules::FaceRow;
+use rules::Links;
+use rules::RING;
+use rules::Refusal;
+use tables::rows;
+ghost use mathlib.Core.Path.{_≡_};
+ghost use mathlib.Core.List.{List};
+ghost use Prim.Native.Nat.{ℕ};
+ghost use lib.ListN.{length};
+ghost use lib.Ieee.{Float};
+ghost use Rattle.rules.specs.Table.{Table, someBelow};
+ghost use Rattle.rules.specs.Mesh.{mesh, linksOf};
+ghost use Rattle.rules.specs.Insert.{hasFace};
+ghost use Rattle.rules.specs.Edit as Edit;
+
+// ---- the four corners
+
+// Source and destination of the one arc, then of the other.
+pub fn corners_of(arcs: &[ArcRow], x: u32, y: u32) -> [u32; 4]
+    ensures { λ r. ⌜ ((vs : Table) (ps : List (List Float)) (es fs : Table) (ks : List ℕ) → r ≡ Edit.corners (mesh vs ps (now (arcs .entry)) es fs ks) x y) ⌝ }
+{
+    let a = rows::cell6(arcs, x, 0);
+    let b = rows::cell6(arcs, x, 1);
+    let c = rows::cell6(arcs, y, 0);
+    let d = rows::cell6(arcs, y, 1);
+    [a, b, c, d]
+}
+
+// Says only that there are four.
+fn known_four(four: [u32; 4])
+    ensures { λ _. ⌜ length four ≡ 4 ⌝ }
+{}
+
+// They as a list.
+pub fn corner_list(four: [u32; 4]) -> Links
+    ensures { λ r. ⌜ r ≡ linksOf four ⌝ }
+{
+    known_four(four);
+    let mut at = [0u32; RING];
+    let mut i: usize = 0;
+    while i < 4 {
+        at[i] = four[i];
+        i += 1;
+    }
+    Links { at, len: 4 }
+}
+
+// Whether an existing arc among their pairs has a face.
+pub fn corners_faced(arcs: &[ArcRow], four: [u32; 4]) -> bool
+    ensures { λ r. ⌜ ((vs : Table) (ps : List (List Float)) (es fs : Table) (ks : List ℕ) → r ≡ someBelow (hasFace (mesh vs ps (now (arcs .entry)) es fs ks) four) 4) ⌝ }
+{
+    known_four(four);
+    let mut i: usize = 0;
+    while i < 4 {
+        let j = lists::place_after(4, i);
+        let x = rows::find_arc(arcs, four[i], four[j]);
+        if insert::faced(arcs, x) {
+            return true;
+        }
+        i += 1;
+    }
+    false
+}
+
+// ---- the checks
+
+// Those of an arc bridge, and then of the insert of its corners.
+pub fn arc_bridge_checks(arcs: &[ArcRow], x: u32, y: u32) -> Answer
+    ensures { λ r. ⌜ ((vs : Table) (ps : List (List Float)) (es fs : Table) (ks : List ℕ) → r ≡ Edit.arcBridgeChecks (mesh vs ps (now (arcs .entry)) es fs ks) x y) ⌝ }
+{
+    if x == 0 {
+        return Answer::Refused(Refusal::TopologyNotFound);
+    }
+    if y == 0 {
+        return Answer::Refused(Refusal::TopologyNotFound);
+    }
+    let four = corners_of(arcs, x, y);
+    if corners_faced(arcs, four) {
+        return Answer::Refused(Refusal::TopologyConflict);
+    }
+    let per = corner_list(four);
+    insert::insert_checks(arcs, per, per)
+}
+
+// Those of a bridge of two faces.
+pub fn bridge_checks(arcs: &[ArcRow], faces: &[FaceRow], f: u32, g: u32) -> Answer
+    ensures { λ r. ⌜ ((vs : Table) (ps : List (List Float)) (es : Table) (ks : List ℕ) → r ≡ Edit.bridgeChecks (mesh vs ps (now (arcs .entry)) es (now (faces .entry)) ks) f g) ⌝ }
+{
+    if f == 0 {
+        return Answer::Refused(Refusal::TopologyNotFound);
+    }
+    if g == 0 {
+        return Answer::Refused(Refusal::TopologyNotFound);
+    }
+    let n = rings::arity_of(arcs, faces, f);
+    let m = rings::arity_of(arcs, faces, g);
+    if n != m {
+        return Answer::Refused(Refusal::ArityNonUniform);
+    }
+    if f == g {
+        return Answer::Refused(Refusal::TopologyNotFound);
+    }
+    Answer::Done
+}

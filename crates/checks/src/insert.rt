@@ -1,0 +1,133 @@
+// The checks of a face insert, by the vertices of its perimeter. A vertex is named by its link, 0 where its key is unknown.
+// Document 01's rule 5, "Fewer than three keys or duplicates 3, before any lookup; unknown vertex 4; then perimeter pairs in order: an existing
+// arc with a face 5; an existing arc whose follower is absent, and whose next leads to a vertex of the perimeter, 5".
+
+use rules::Answer;
+use rules::ArcRow;
+use rules::Links;
+use rules::Refusal;
+use tables::rows;
+ghost use mathlib.Core.Path.{_≡_};
+ghost use mathlib.Core.Bool.{not, _&&_, cond};
+ghost use mathlib.Core.List.{List};
+ghost use Prim.Native.Nat.{ℕ};
+ghost use lib.Dec.{eqb};
+ghost use lib.Ieee.{Float};
+ghost use Rattle.rules.specs.Table.{Table, cell};
+ghost use Rattle.rules.specs.Mesh.{mesh, listOf};
+ghost use Rattle.rules.specs.Insert as Insert;
+ghost use Rattle.rules.specs.Call.{pairsWithout};
+
+// The arc of pair i, or none.
+pub fn arc_at(arcs: &[ArcRow], per: Links, i: usize) -> u32
+    ensures { λ r. ⌜ ((vs : Table) (ps : List (List Float)) (es fs : Table) (ks : List ℕ) → r ≡ Insert.arcAt (mesh vs ps (now (arcs .entry)) es fs ks) (listOf per) i) ⌝ }
+{
+    let n = lists::size(per);
+    if i >= n {
+        return 0;
+    }
+    let a = lists::item(per, i);
+    let b = lists::item(per, lists::place_after(n, i));
+    rows::find_arc(arcs, a, b)
+}
+
+// Whether x is an arc, and has a face.
+pub fn faced(arcs: &[ArcRow], x: u32) -> bool
+    ensures { λ r. ⌜ r ≡ (not (eqb x 0) && not (eqb (cell (now (arcs .entry)) x 4) 0)) ⌝ }
+{
+    if x == 0 {
+        return false;
+    }
+    rows::cell6(arcs, x, 4) != 0
+}
+
+// An existing arc with a face.
+pub fn has_face(arcs: &[ArcRow], per: Links, i: usize) -> bool
+    ensures { λ r. ⌜ ((vs : Table) (ps : List (List Float)) (es fs : Table) (ks : List ℕ) → r ≡ Insert.hasFace (mesh vs ps (now (arcs .entry)) es fs ks) (listOf per) i) ⌝ }
+{
+    faced(arcs, arc_at(arcs, per, i))
+}
+
+// An existing arc whose follower is absent, and whose next leads to a vertex of the perimeter.
+pub fn leads_back(arcs: &[ArcRow], per: Links, i: usize) -> bool
+    ensures { λ r. ⌜ ((vs : Table) (ps : List (List Float)) (es fs : Table) (ks : List ℕ) → r ≡ Insert.leadsBack (mesh vs ps (now (arcs .entry)) es fs ks) (listOf per) i) ⌝ }
+{
+    let n = lists::size(per);
+    if i >= n {
+        return false;
+    }
+    let x = arc_at(arcs, per, i);
+    if x == 0 {
+        return false;
+    }
+    if arc_at(arcs, per, lists::place_after(n, i)) != 0 {
+        return false;
+    }
+    let y = rows::cell6(arcs, x, 2);
+    if y == 0 {
+        return false;
+    }
+    lists::has_from(per, 0, rows::cell6(arcs, y, 1))
+}
+
+// Whether some pair has either.
+pub fn conflict(arcs: &[ArcRow], per: Links) -> bool
+    ensures { λ r. ⌜ ((vs : Table) (ps : List (List Float)) (es fs : Table) (ks : List ℕ) → r ≡ Insert.conflict (mesh vs ps (now (arcs .entry)) es fs ks) (listOf per)) ⌝ }
+{
+    let n = lists::size(per);
+    let mut i: usize = 0;
+    while i < n {
+        if has_face(arcs, per, i) {
+            return true;
+        }
+        if leads_back(arcs, per, i) {
+            return true;
+        }
+        i += 1;
+    }
+    false
+}
+
+// All of them, in order. What names the vertices is a list of keys, or of links.
+pub fn insert_checks(arcs: &[ArcRow], names: Links, per: Links) -> Answer
+    ensures { λ r. ⌜ ((vs : Table) (ps : List (List Float)) (es fs : Table) (ks : List ℕ) → r ≡ Insert.insertChecks (mesh vs ps (now (arcs .entry)) es fs ks) (listOf names) (listOf per)) ⌝ }
+{
+    let malformed = lists::is_malformed(names);
+    let unknown = lists::has_from(per, 0, 0);
+    if malformed {
+        return Answer::Refused(Refusal::TopologyMalformed);
+    }
+    if unknown {
+        return Answer::Refused(Refusal::TopologyNotFound);
+    }
+    if conflict(arcs, per) {
+        return Answer::Refused(Refusal::TopologyConflict);
+    }
+    Answer::Done
+}
+
+// ---- what an insert needs
+
+// One for a pair without an arc.
+pub fn one_if_none(x: u32) -> usize
+    ensures { λ r. ⌜ r ≡ cond (eqb x 0) 1 0 ⌝ }
+{
+    if x == 0 {
+        return 1;
+    }
+    0
+}
+
+// How many pairs have no arc: each needs an edge.
+pub fn pairs_without(arcs: &[ArcRow], per: Links) -> usize
+    ensures { λ r. ⌜ ((vs : Table) (ps : List (List Float)) (es fs : Table) (ks : List ℕ) → r ≡ pairsWithout (mesh vs ps (now (arcs .entry)) es fs ks) (listOf per)) ⌝ }
+{
+    let n = lists::size(per);
+    let mut sum: usize = 0;
+    let mut i: usize = 0;
+    while i < n {
+        sum += one_if_none(arc_at(arcs, per, i));
+        i += 1;
+    }
+    sum
+}
