@@ -1,0 +1,2 @@
+pub mod FoundOnce
+pub mod Loops

@@ -1,0 +1,128 @@
+-- One turn of each loop of an insert, and what its steps leave of a mesh.
+use Prim.Native.Nat.{ℕ, _+_, _≤_, _<_, zero-le, suc-le-suc}
+use native.Mathlib.Omega.{arith}
+use mathlib.Core.Path.{_≡_, refl, ap, sym, _∙_}
+use mathlib.Core.Bool.{true, false}
+use mathlib.Core.List.{List, [], _∷_, _++_, map, append-nil}
+use lib.ListN.{length, getD, set, take, drop, drop-of-length-le, length-map}
+use lib.Seq.{take-all}
+use lib.Dec.{eqb}
+use borrow.Author.Tests.{eq-eqb, ne-eqb}
+use Rattle.rules.specs.declared.Links.{Links}
+use Rattle.rules.specs.Table.{Table, cell, put, upTo, after, orElse, freeRow, count, used}
+use Rattle.rules.specs.Mesh.{Mesh, mesh, with-arcs, oppositeOf, arcBetween, placesOf, linksOf, listOf}
+use Rattle.rules.specs.Link.{getOrInsertEdge, arcCount}
+use Rattle.rules.specs.Insert.{edgesIn, newFace, putFace, listsOf, facelessIn}
+use Rattle.rules.proofs.Scan.{upTo-more}
+use Rattle.rules.proofs.Places.{list-back}
+use Rattle.walks.proofs.Listing.{pushed}
+use Rattle.tables.specs.Sets.{over}
+use Rattle.insert.specs.Perimeter.{listBelow, pairArc, arcsOf, listFrom, listsFrom, interiorTo, interiorBy, exteriorTo, exteriorBy}
+use Rattle.insert.proofs.FoundOnce.{below-length, arcs-length, arcs-at, lists-are, list-at-place, put-face-by}
+
+-- ---- the perimeter's arcs, place by place
+
+grown : (f : ℕ → ℕ) (i : ℕ) → listBelow f (i + 1) ≡ listBelow f i ++ (f i ∷ [])
+unfolding listBelow
+grown f i = upTo-more (λ j l. l ++ (f j ∷ [])) i []
+
+pub places-more : (f : ℕ → ℕ) (at : List ℕ) (i x : ℕ) → i < 64 → x ≡ f i → at ≡ placesOf (listBelow f i) → set at i x ≡ placesOf (listBelow f (i + 1))
+places-more f at i x l ex h =
+    let short : length (listBelow f i) ≡ i = below-length f i in
+    let put : set (placesOf (listBelow f i)) i x ≡ placesOf (listBelow f i ++ (x ∷ [])) = rw short at (pushed (listBelow f i) x (omega (arith, short))) in
+    ap (λ (o : List ℕ). set o i x) h ∙ put ∙ ap placesOf (ap (λ (y : ℕ). listBelow f i ++ (y ∷ [])) ex ∙ sym (grown f i))
+
+pub arcs-all : (arcs : Table) (per at : List ℕ) (n : ℕ) → n ≡ length per → at ≡ placesOf (listBelow (pairArc arcs per) n) → record { at = at; len = n } ≡ linksOf (arcsOf arcs per)
+unfolding linksOf arcsOf
+arcs-all arcs per at n e h =
+    let same : at ≡ placesOf (listBelow (pairArc arcs per) (length per)) = h ∙ ap (λ (k : ℕ). placesOf (listBelow (pairArc arcs per) k)) e in
+    let many : n ≡ length (listBelow (pairArc arcs per) (length per)) = e ∙ sym (below-length (pairArc arcs per) (length per)) in
+    λ i. record { at = same i; len = many i }
+
+-- ---- the edges
+
+abbrev pub edgeIn : List ℕ → ℕ → Mesh → Mesh
+edgeIn per i m = getOrInsertEdge m (getD per i 0) (getD per (after (length per) i) 0)
+
+pub edges-more : {m m′ : Mesh} (m₀ : Mesh) (per : List ℕ) (i n j a b : ℕ) → n ≡ length per → j ≡ after n i → a ≡ getD per i 0 → b ≡ getD per j 0 → m ≡ upTo (edgeIn per) i m₀ → m′ ≡ getOrInsertEdge m a b → m′ ≡ upTo (edgeIn per) (i + 1) m₀
+edges-more m₀ per i n j a b en ej ea eb em e = rw (upTo-more, ← em, e, eb, ea, ej, en)
+
+-- ---- the interior
+
+abbrev pub interiorIn : List ℕ → ℕ → ℕ → Table → Table
+interiorIn xs f i t = interiorTo (getD xs i 0) (getD xs (after (length xs) i) 0) f t
+
+pub interior-more : {t t₁ t₂ : Table} (t₀ : Table) (xs : List ℕ) (f i n j x y : ℕ) → n ≡ length xs → j ≡ after n i → x ≡ getD xs i 0 → y ≡ getD xs j 0 → t ≡ upTo (interiorIn xs f) i t₀ → t₁ ≡ put (put t x 2 y) y 3 x → t₂ ≡ put t₁ x 4 f → t₂ ≡ upTo (interiorIn xs f) (i + 1) t₀
+unfolding interiorTo
+interior-more t₀ xs f i n j x y en ej ex ey et e₁ e₂ = rw (upTo-more, ← et, e₂, e₁, ey, ex, ej, en)
+
+-- ---- the exterior
+
+abbrev pub exteriorIn : Table → Table → Table → ℕ → List ℕ → List ℕ → ℕ → Table → Table
+exteriorIn edges past pastedges bound leads xs i t =
+    exteriorTo edges (getD (listsFrom past pastedges bound leads) i []) (getD (listsFrom past pastedges bound leads) (after (length xs) i) []) (getD xs i 0) t
+
+pub exterior-more : {t t₁ : Table} (t₀ edges past pastedges : Table) (bound : ℕ) (leads xs : List ℕ) (i n j out back x : ℕ) → n ≡ length xs → j ≡ after n i → out ≡ getD leads i 0 → back ≡ getD leads j 0 → x ≡ getD xs i 0 → t ≡ upTo (exteriorIn edges past pastedges bound leads xs) i t₀ → t₁ ≡ exteriorTo edges (listFrom past pastedges bound out) (listFrom past pastedges bound back) x t → t₁ ≡ upTo (exteriorIn edges past pastedges bound leads xs) (i + 1) t₀
+exterior-more t₀ edges past pastedges bound leads xs i n j out back x en ej eo eb ex et e =
+    rw (upTo-more, ← et, list-at-place past pastedges bound leads i, list-at-place past pastedges bound leads (after (length xs) i), e, eb, eo, ex, ej, en)
+
+-- at one arc, by what its ends are linked to
+pub exterior-held : (edges : Table) (out back : List ℕ) (x : ℕ) (t : Table) (o held : ℕ) → o ≡ oppositeOf t edges x → held ≡ cell t o 4 → (held ≡ 0 → ⊥) → t ≡ exteriorTo edges out back x t
+unfolding exteriorTo
+exterior-held edges out back x t o held eo eh h =
+    let z : eqb (cell t (oppositeOf t edges x) 4) 0 ≡ false = ne-eqb (cell t (oppositeOf t edges x) 4) 0 (λ q. h (eh ∙ ap (λ (y : ℕ). cell t y 4) eo ∙ q)) in
+    rw z
+
+pub exterior-free : (edges : Table) (out back : List ℕ) (x : ℕ) (t t₁ t₂ : Table) (o held : ℕ) → o ≡ oppositeOf t edges x → held ≡ cell t o 4 → held ≡ 0
+    → (free before other after-o : ℕ) → free ≡ facelessIn t out → before ≡ cell t x 3 → other ≡ oppositeOf t edges before → after-o ≡ orElse free other
+    → (free′ next other′ before-o : ℕ) → free′ ≡ facelessIn t (map (oppositeOf t edges) back) → next ≡ cell t x 2 → other′ ≡ oppositeOf t edges next → before-o ≡ orElse free′ other′
+    → t₁ ≡ put (put t o 2 after-o) after-o 3 o → t₂ ≡ put (put t₁ before-o 2 o) o 3 before-o → t₂ ≡ exteriorTo edges out back x t
+unfolding exteriorTo
+exterior-free edges out back x t t₁ t₂ o held eo eh h free before other after-o e1 e2 e3 e4 free′ next other′ before-o g1 g2 g3 g4 k₁ k₂ =
+    let z : eqb (cell t (oppositeOf t edges x) 4) 0 ≡ true = eq-eqb (cell t (oppositeOf t edges x) 4) 0 (ap (λ (y : ℕ). cell t y 4) (sym eo) ∙ sym eh ∙ h) in
+    rw (z, k₂, k₁, e4, g4, e1, g1, e3, g3, e2, g2, eo)
+
+-- ---- the whole insert, in the code's steps
+
+-- the first pair's arc, also of no pairs
+first-arc : (arcs : Table) (per : List ℕ) → getD (arcsOf arcs per) 0 0 ≡ pairArc arcs per 0
+unfolding arcsOf listBelow upTo pairArc arcBetween
+first-arc arcs [] = refl
+first-arc arcs (v ∷ vs) = arcs-at arcs (v ∷ vs) 0 (suc-le-suc zero-le)
+
+arcs-held : (arcs : Table) (per : List ℕ) (xs : Links) → length per ≤ 64 → xs ≡ linksOf (arcsOf arcs per) → listOf xs ≡ arcsOf arcs per
+arcs-held arcs per xs few e = ap listOf e ∙ list-back (arcsOf arcs per) (omega (arith, arcs-length arcs per))
+
+pub put-face-steps : (m : Mesh) (per : List ℕ) (lists : List (List ℕ)) (mark : ℕ) (v₁ a₁ e₁ : Table) (k₁ : List ℕ) (xs : Links) (x f : ℕ) (f₂ : Table) (k₂ : List ℕ) (a₂ a₃ : Table)
+    → length per ≤ 64 → mesh v₁ (m .positions) a₁ e₁ (m .faces) k₁ ≡ edgesIn per m → xs ≡ linksOf (arcsOf a₁ per) → x ≡ getD (listOf xs) 0 0 → f ≡ freeRow (m .faces)
+    → mesh v₁ (m .positions) a₁ e₁ f₂ k₂ ≡ newFace (mesh v₁ (m .positions) a₁ e₁ (m .faces) k₁) x mark → a₂ ≡ interiorBy (listOf xs) f a₁ → a₃ ≡ exteriorBy e₁ lists (listOf xs) a₂
+    → mesh v₁ (m .positions) a₃ e₁ f₂ k₂ ≡ putFace m per lists mark
+put-face-steps m per lists mark v₁ a₁ e₁ k₁ xs x f f₂ k₂ a₂ a₃ few edged found first free faced inside outside =
+    let m₁ : Mesh = mesh v₁ (m .positions) a₁ e₁ (m .faces) k₁ in
+    let held : listOf xs ≡ arcsOf a₁ per = arcs-held a₁ per xs few found in
+    let isx : x ≡ pairArc a₁ per 0 = first ∙ ap (λ (l : List ℕ). getD l 0 0) held ∙ first-arc a₁ per in
+    let isa : a₃ ≡ exteriorBy e₁ lists (arcsOf a₁ per) (interiorBy (arcsOf a₁ per) (freeRow (m .faces)) a₁) = rw (outside, inside, held, free) in
+    ap (λ (n : Mesh). with-arcs n a₃) faced
+    ∙ ap (λ (y : ℕ). with-arcs (newFace m₁ y mark) a₃) isx
+    ∙ ap (λ (t : Table). with-arcs (newFace m₁ (pairArc a₁ per 0) mark) t) isa
+    ∙ ap (λ (n : Mesh). with-arcs (newFace n (pairArc (n .arcs) per 0) mark) (exteriorBy (n .edges) lists (arcsOf (n .arcs) per) (interiorBy (arcsOf (n .arcs) per) (freeRow (n .faces)) (n .arcs)))) edged
+    ∙ sym (put-face-by m per lists mark)
+
+-- a table copied over one of equal length is that table
+pub over-same : (s d : Table) → length d ≡ length s → over s d ≡ s
+unfolding over
+over-same s d e =
+    let all : take (length d) s ≡ s = take-all (length d) s (omega arith) in
+    let short : length d ≤ length s = omega arith in
+    let none : drop (length s) d ≡ [] = drop-of-length-le d short in
+    rw (all, none) (append-nil s)
+
+-- lists walked in copies of the tables, from the leading arcs, are those of the mesh
+pub lists-taken : (m : Mesh) (per : List ℕ) (past pastedges past₁ pastedges₁ : Table) (bound : ℕ) (leads : Links)
+    → length per ≤ 64 → length past ≡ length (m .arcs) → length pastedges ≡ length (m .edges) → past₁ ≡ over (m .arcs) past → pastedges₁ ≡ over (m .edges) pastedges
+    → bound ≡ count used (m .arcs) → leads ≡ linksOf (map (λ v. cell (m .vertices) v 1) per)
+    → listsFrom past₁ pastedges₁ bound (listOf leads) ≡ listsOf m per
+unfolding arcCount
+lists-taken m per past pastedges past₁ pastedges₁ bound leads few la le ea ee eb el =
+    let back : listOf leads ≡ map (λ v. cell (m .vertices) v 1) per = ap listOf el ∙ list-back (map (λ v. cell (m .vertices) v 1) per) (omega (arith, length-map per (λ v. cell (m .vertices) v 1))) in
+    rw (ea, ee, over-same (m .arcs) past la, over-same (m .edges) pastedges le, eb, back) (sym (lists-are m per))

@@ -1,0 +1,80 @@
+use Prim.Native.Nat.{_-_, _≤_}
+use native.Mathlib.Omega.{arith}
+use mathlib.Core.Path.{_≡_, refl, _∙_}
+use lib.ListN.{length}
+use Rattle.rules.specs.Table.{upTo}
+use Rattle.rules.specs.Mesh.{listOf}
+use Rattle.insert.specs.Perimeter.{interiorBy}
+use Rattle.insert.proofs.Loops.{interiorIn, interior-more}
+use borrow.Author.Needs.{needs}
+use Rattle.insert.proofs.perimeter.interior.Statement.{statement}
+use Rattle.insert.proofs.perimeter.interior.Tie as tie
+
+abbrev Inv-loop : tie.InvT-loop
+Inv-loop arcs₀ xs face n i₀ arcs i = (i ≤ n) × ((length arcs ≡ length arcs₀) × (arcs ≡ upTo (interiorIn (listOf xs) face) i arcs₀))
+
+abbrev μ-loop : tie.MeasureT-loop
+μ-loop arcs₀ xs face n i₀ arcs i = n - i
+
+size-requires : tie.Need-size-requires Inv-loop μ-loop
+size-requires c κs = search needs
+
+loop-holds : tie.Need-loop-holds Inv-loop μ-loop
+unfolding upTo
+loop-holds c = (search needs, (refl, refl))
+
+item-requires : tie.Need-item-requires Inv-loop μ-loop
+item-requires c κs = search needs
+
+place-after-requires : tie.Need-place-after-requires Inv-loop μ-loop
+place-after-requires c κs = search needs
+
+item-requires-2 : tie.Need-item-requires-2 Inv-loop μ-loop
+item-requires-2 c κs = search needs
+
+connect-requires : tie.Need-connect-requires Inv-loop μ-loop
+connect-requires c κs = search needs
+
+set-face-requires : tie.Need-set-face-requires Inv-loop μ-loop
+set-face-requires c κs = search needs
+
+add-i : tie.Need-add-i Inv-loop μ-loop
+add-i c = search needs
+
+loop-less : tie.Need-loop-less Inv-loop μ-loop
+loop-less c = search needs
+
+loop-again : tie.Need-loop-again Inv-loop μ-loop
+loop-again c =
+    let l = c .before .before .before .before .before .before .before .before .before .before in
+    let a = c .before .before .before .before .before .before .before .before .before .before .before .before .args in
+    let en = c .before .before .before .before .before .before .before .before .before .before .before .size in
+    (search needs, (c .before .set-face .kept .0 ∙ c .before .before .before .before .connect .kept .0 ∙ l .loop .inv .1 .0, interior-more (a .arcs .now) (listOf (a .xs)) (a .face) (l .loop .i) (en .result) (c .before .before .before .before .before .before .place-after .result) (c .before .before .before .before .before .before .before .before .item .result) (c .before .before .before .before .before .item2 .result) (en .ensures) (c .before .before .before .before .before .before .place-after .ensures) (c .before .before .before .before .before .before .before .before .item .ensures) (c .before .before .before .before .before .item2 .ensures) (l .loop .inv .1 .1) (c .before .before .before .before .connect .ensures) (c .before .set-face .ensures)))
+
+same-length : tie.Need-same-length Inv-loop μ-loop
+same-length c = search needs
+
+returns : tie.Need-returns Inv-loop μ-loop
+unfolding interiorBy
+returns c =
+    let all : c .before .loop .i ≡ length (listOf (c .before .before .before .args .xs)) = omega (arith, c .before .before .size .ensures) in
+    rw all at (c .before .loop .inv .1 .1)
+
+pub interior-spec : {M : Type 1} → statement M
+interior-spec =
+    tie.close
+    (tie.spec
+    Inv-loop
+    μ-loop
+    size-requires
+    loop-holds
+    item-requires
+    place-after-requires
+    item-requires-2
+    connect-requires
+    set-face-requires
+    add-i
+    loop-less
+    loop-again
+    same-length
+    returns)

@@ -1,0 +1,47 @@
+-- Face insert as the code goes about it: the perimeter's arcs are found once, and every link is written by that list.
+use Prim.Native.Nat.{ℕ, zero, suc, _+_, _-_}
+use mathlib.Core.Bool.{Bool, cond}
+use mathlib.Core.List.{List, [], _∷_, _++_, map}
+use lib.ListN.{length, getD}
+use lib.Dec.{eqb}
+use Rattle.rules.specs.Table.{Table, cell, put, upTo, after, orElse}
+use Rattle.rules.specs.Mesh.{oppositeOf, arcBetween}
+use Rattle.rules.specs.Link.{walk, turnIn}
+use Rattle.rules.specs.Insert.{facelessIn}
+
+-- the list of f at 0, 1, up to n - 1
+unfoldable pub listBelow : (ℕ → ℕ) → ℕ → List ℕ
+listBelow f n = upTo (λ i l. l ++ (f i ∷ [])) n []
+
+-- the arc of pair i, by the arc table alone, and those of all pairs
+unfoldable pub pairArc : Table → List ℕ → ℕ → ℕ
+pairArc arcs per i = arcBetween arcs (getD per i 0) (getD per (after (length per) i) 0)
+
+unfoldable pub arcsOf : Table → List ℕ → List ℕ
+arcsOf arcs per = listBelow (pairArc arcs per) (length per)
+
+-- lists as they were: from these first arcs, in tables as they were, of at most so many arcs
+unfoldable pub listFrom : Table → Table → ℕ → ℕ → List ℕ
+listFrom past pastedges bound x = walk (turnIn past pastedges) x bound x
+
+unfoldable pub listsFrom : Table → Table → ℕ → List ℕ → List (List ℕ)
+listsFrom past pastedges bound leads = map (listFrom past pastedges bound) leads
+
+-- the interior at the arc x with y after it: link, then face
+unfoldable pub interiorTo : ℕ → ℕ → ℕ → Table → Table
+interiorTo x y f t = put (put (put t x 2 y) y 3 x) x 4 f
+
+unfoldable pub interiorBy : List ℕ → ℕ → Table → Table
+interiorBy xs f t = upTo (λ i u. interiorTo (getD xs i 0) (getD xs (after (length xs) i) 0) f u) (length xs) t
+
+-- the exterior at the arc x = (a,b), from a's list and b's list
+unfoldable pub exteriorTo : Table → List ℕ → List ℕ → ℕ → Table → Table
+exteriorTo edges out back x t =
+    let o = oppositeOf t edges x in
+    let after-o = orElse (facelessIn t out) (oppositeOf t edges (cell t x 3)) in
+    let before-o = orElse (facelessIn t (map (oppositeOf t edges) back)) (oppositeOf t edges (cell t x 2)) in
+    cond (eqb (cell t o 4) 0) (put (put (put (put t o 2 after-o) after-o 3 o) before-o 2 o) o 3 before-o) t
+
+unfoldable pub exteriorBy : Table → List (List ℕ) → List ℕ → Table → Table
+exteriorBy edges lists xs t =
+    upTo (λ i u. exteriorTo edges (getD lists i []) (getD lists (after (length xs) i) []) (getD xs i 0) u) (length xs) t

@@ -1,0 +1,77 @@
+// A face insert whose checks have passed. Document 01's rule 5.
+
+use crate::perimeter;
+use rules::ArcRow;
+use rules::EdgeRow;
+use rules::FaceRow;
+use rules::Links;
+use rules::VertexRow;
+use tables::rows;
+use tables::sets;
+ghost use mathlib.Core.Path.{_≡_};
+ghost use mathlib.Core.List.{List};
+ghost use Prim.Native.Nat.{ℕ};
+ghost use lib.ListN.{length};
+ghost use lib.Ieee.{Float};
+ghost use Rattle.rules.specs.Mesh.{mesh, listOf};
+ghost use Rattle.rules.specs.Insert.{putFace, listsOf};
+ghost use Rattle.insert.specs.Perimeter.{listsFrom};
+
+// The edges, the face with the first perimeter arc, the interior, then the exterior, by lists from these leading arcs.
+pub fn put_face(
+    vertices: &mut [VertexRow],
+    arcs: &mut [ArcRow],
+    edges: &mut [EdgeRow],
+    faces: &mut [FaceRow],
+    counters: &mut [u32; 3],
+    past: &[ArcRow],
+    pastedges: &[EdgeRow],
+    bound: usize,
+    leads: Links,
+    per: Links,
+    mark: u32,
+)
+    ensures { λ _. ⌜ ((p : List (List Float)) → mesh (now (vertices .exit)) p (now (arcs .exit)) (now (edges .exit)) (now (faces .exit)) (now (counters .exit)) ≡ putFace (mesh (now (vertices .entry)) p (now (arcs .entry)) (now (edges .entry)) (now (faces .entry)) (now (counters .entry))) (listOf per) (listsFrom (now (past .entry)) (now (pastedges .entry)) bound (listOf leads)) mark) ⌝ }
+{
+    lists::known_few(per);
+    perimeter::edges_in(vertices, arcs, edges, counters, per);
+    let xs = perimeter::perimeter_arcs(arcs, per);
+    let face = edges::face::new_face(faces, counters, lists::item(xs, 0), mark);
+    perimeter::interior(arcs, xs, face);
+    perimeter::exterior(arcs, edges, past, pastedges, bound, leads, xs);
+}
+
+// The insert of a perimeter that the checks let pass: the lists are taken first. The answer is the face's key.
+pub fn insert_work(
+    vertices: &mut [VertexRow],
+    arcs: &mut [ArcRow],
+    edges: &mut [EdgeRow],
+    faces: &mut [FaceRow],
+    counters: &mut [u32; 3],
+    past: &mut [ArcRow],
+    pastedges: &mut [EdgeRow],
+    per: Links,
+    mark: u32,
+)
+    requires { ⌜ (length (now past) ≡ length (now arcs)) × (length (now pastedges) ≡ length (now edges)) ⌝ }
+    ensures { λ _. ⌜ ((p : List (List Float)) → mesh (now (vertices .exit)) p (now (arcs .exit)) (now (edges .exit)) (now (faces .exit)) (now (counters .exit)) ≡ putFace (mesh (now (vertices .entry)) p (now (arcs .entry)) (now (edges .entry)) (now (faces .entry)) (now (counters .entry))) (listOf per) (listsOf (mesh (now (vertices .entry)) p (now (arcs .entry)) (now (edges .entry)) (now (faces .entry)) (now (counters .entry))) (listOf per)) mark) ⌝ }
+{
+    lists::known_few(per);
+    sets::copy6(past, arcs);
+    sets::copy3(pastedges, edges);
+    let bound = rows::count_used6(arcs);
+    let leads = perimeter::leading_arcs(vertices, per);
+    put_face(
+        vertices,
+        arcs,
+        edges,
+        faces,
+        counters,
+        past,
+        pastedges,
+        bound,
+        leads,
+        per,
+        mark,
+    );
+}

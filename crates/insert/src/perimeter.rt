@@ -1,0 +1,156 @@
+// The parts of a face insert: the perimeter's arcs and leading arcs, the edges, the interior, the exterior. Document 01's rule 5:
+// "Then the edges, the face with the first perimeter arc, and the interior: link, then face, arc by arc. Then the exterior."
+
+use rules::ArcRow;
+use rules::EdgeRow;
+use rules::Links;
+use rules::RING;
+use rules::VertexRow;
+use tables::links;
+use tables::rows;
+use walks::lists as vertexlists;
+ghost use mathlib.Core.Path.{_≡_};
+ghost use mathlib.Core.List.{List, map};
+ghost use Prim.Native.Nat.{ℕ};
+ghost use lib.ListN.{getD};
+ghost use lib.Ieee.{Float};
+ghost use Rattle.rules.specs.Table.{Table, cell, orElse};
+ghost use Rattle.rules.specs.Mesh.{mesh, linksOf, listOf};
+ghost use Rattle.rules.specs.Insert.{edgesIn};
+ghost use Rattle.insert.specs.Perimeter.{arcsOf, listFrom, listsFrom, interiorBy, exteriorTo, exteriorBy};
+
+// The arcs of the perimeter's pairs, found once.
+pub fn perimeter_arcs(arcs: &[ArcRow], per: Links) -> Links
+    ensures { λ r. ⌜ r ≡ linksOf (arcsOf (now (arcs .entry)) (listOf per)) ⌝ }
+{
+    let n = lists::size(per);
+    lists::known_few(per);
+    let mut at = [0u32; RING];
+    let mut i: usize = 0;
+    while i < n {
+        let a = lists::item(per, i);
+        let b = lists::item(per, lists::place_after(n, i));
+        at[i] = rows::find_arc(arcs, a, b);
+        i += 1;
+    }
+    Links { at, len: n }
+}
+
+// The leading arcs of the perimeter's vertices.
+pub fn leading_arcs(vertices: &[VertexRow], per: Links) -> Links
+    ensures { λ r. ⌜ r ≡ linksOf (map (λ v. cell (now (vertices .entry)) v 1) (listOf per)) ⌝ }
+{
+    let n = lists::size(per);
+    lists::known_few(per);
+    let mut at = [0u32; RING];
+    let mut i: usize = 0;
+    while i < n {
+        at[i] = rows::cell2(vertices, lists::item(per, i), 1);
+        i += 1;
+    }
+    Links { at, len: n }
+}
+
+// The edges: each is there, or is made.
+pub fn edges_in(
+    vertices: &mut [VertexRow],
+    arcs: &mut [ArcRow],
+    edges: &mut [EdgeRow],
+    counters: &mut [u32; 3],
+    per: Links,
+)
+    ensures { λ _. ⌜ ((p : List (List Float)) (f : Table) → mesh (now (vertices .exit)) p (now (arcs .exit)) (now (edges .exit)) f (now (counters .exit)) ≡ edgesIn (listOf per) (mesh (now (vertices .entry)) p (now (arcs .entry)) (now (edges .entry)) f (now (counters .entry)))) ⌝ }
+{
+    let n = lists::size(per);
+    let mut i: usize = 0;
+    while i < n {
+        let a = lists::item(per, i);
+        let b = lists::item(per, lists::place_after(n, i));
+        edges::edge::get_or_insert_edge(vertices, arcs, edges, counters, a, b);
+        i += 1;
+    }
+}
+
+// The interior: link, then face, arc by arc.
+pub fn interior(arcs: &mut [ArcRow], xs: Links, face: u32)
+    ensures { λ _. ⌜ now (arcs .exit) ≡ interiorBy (listOf xs) face (now (arcs .entry)) ⌝ }
+{
+    let n = lists::size(xs);
+    let mut i: usize = 0;
+    while i < n {
+        let x = lists::item(xs, i);
+        links::connect(arcs, x, lists::item(xs, lists::place_after(n, i)));
+        links::set_face(arcs, x, face);
+        i += 1;
+    }
+}
+
+// x, or the other where x is none.
+fn or_else(x: u32, other: u32) -> u32
+    ensures { λ r. ⌜ r ≡ orElse x other ⌝ }
+{
+    if x == 0 {
+        return other;
+    }
+    x
+}
+
+// The exterior at the arc x = (a,b), if its opposite has no face: a's outgoing list started at out, b's at back.
+fn exterior_at(
+    arcs: &mut [ArcRow],
+    edges: &[EdgeRow],
+    past: &[ArcRow],
+    pastedges: &[EdgeRow],
+    bound: usize,
+    out: u32,
+    back: u32,
+    x: u32,
+)
+    ensures { λ _. ⌜ now (arcs .exit) ≡ exteriorTo (now (edges .entry)) (listFrom (now (past .entry)) (now (pastedges .entry)) bound out) (listFrom (now (past .entry)) (now (pastedges .entry)) bound back) x (now (arcs .entry)) ⌝ }
+{
+    let o = rows::opposite(arcs, edges, x);
+    if rows::cell6(arcs, o, 4) != 0 {
+        return;
+    }
+    let first = or_else(
+        vertexlists::faceless_out(arcs, past, pastedges, out, bound),
+        rows::opposite(arcs, edges, rows::cell6(arcs, x, 3)),
+    );
+    let last = or_else(
+        vertexlists::faceless_in(arcs, edges, past, pastedges, back, bound),
+        rows::opposite(arcs, edges, rows::cell6(arcs, x, 2)),
+    );
+    links::connect(arcs, o, first);
+    links::connect(arcs, last, o);
+}
+
+// The exterior, pair by pair.
+pub fn exterior(
+    arcs: &mut [ArcRow],
+    edges: &[EdgeRow],
+    past: &[ArcRow],
+    pastedges: &[EdgeRow],
+    bound: usize,
+    leads: Links,
+    xs: Links,
+)
+    ensures { λ _. ⌜ now (arcs .exit) ≡ exteriorBy (now (edges .entry)) (listsFrom (now (past .entry)) (now (pastedges .entry)) bound (listOf leads)) (listOf xs) (now (arcs .entry)) ⌝ }
+{
+    let n = lists::size(xs);
+    let mut i: usize = 0;
+    while i < n {
+        let out = lists::item(leads, i);
+        let back = lists::item(leads, lists::place_after(n, i));
+        exterior_at(
+            arcs,
+            edges,
+            past,
+            pastedges,
+            bound,
+            out,
+            back,
+            lists::item(xs, i),
+        );
+        i += 1;
+    }
+}
