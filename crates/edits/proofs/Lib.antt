@@ -1,0 +1,4 @@
+pub mod Ends
+pub mod Inserts
+pub mod Steps
+pub mod Whole

@@ -1,0 +1,126 @@
+// Arc bridge and arc extrude. Document 01's rule 8: "Unknown arcs 4; the four corners (a,b,c,d) stand together as one value; an existing arc
+// among their pairs that has a face, 5; then insert with mark 0", and rule 10: "c is b moved, d is a moved, made in that order; then edge
+// (c,d), then arc bridge of (a,b) and (c,d); the answer is (c,d)."
+
+use crate::pieces;
+use rules::Answer;
+use rules::ArcRow;
+use rules::EdgeRow;
+use rules::FaceRow;
+use rules::Move;
+use rules::PositionRow;
+use rules::VertexRow;
+use tables::answers;
+use tables::points;
+use tables::rows;
+ghost use mathlib.Core.Path.{_≡_};
+ghost use mathlib.Core.List.{List};
+ghost use lib.ListN.{length};
+ghost use lib.Ieee.{Float};
+ghost use Rattle.rules.specs.Mesh.{mesh};
+ghost use Rattle.rules.specs.Step.{step};
+ghost use Rattle.rules.specs.Edit.{arcBridgeWork, arcBridge};
+ghost use Rattle.rules.specs.Extrude.{arcExtrudeWork};
+
+// The insert of the four corners, behind its checks: the face's key.
+pub fn arc_bridge_work(
+    vertices: &mut [VertexRow],
+    arcs: &mut [ArcRow],
+    edges: &mut [EdgeRow],
+    faces: &mut [FaceRow],
+    counters: &mut [u32; 3],
+    past: &mut [ArcRow],
+    pastedges: &mut [EdgeRow],
+    x: u32,
+    y: u32,
+) -> Answer
+    requires { ⌜ (length (now past) ≡ length (now arcs)) × (length (now pastedges) ≡ length (now edges)) ⌝ }
+    ensures { λ r. ⌜ ((p : List (List Float)) → step (mesh (now (vertices .exit)) p (now (arcs .exit)) (now (edges .exit)) (now (faces .exit)) (now (counters .exit))) r ≡ arcBridgeWork (mesh (now (vertices .entry)) p (now (arcs .entry)) (now (edges .entry)) (now (faces .entry)) (now (counters .entry))) x y) ⌝ }
+{
+    let four = checks::bridge::corners_of(arcs, x, y);
+    let per = checks::bridge::corner_list(four);
+    let key = counters[2];
+    insert::face::insert_work(
+        vertices,
+        arcs,
+        edges,
+        faces,
+        counters,
+        past,
+        pastedges,
+        per,
+        0,
+    );
+    Answer::Key(key)
+}
+
+// Arc bridge with its checks, as bridge and arc extrude use it in mid-edit.
+pub fn arc_bridge(
+    vertices: &mut [VertexRow],
+    arcs: &mut [ArcRow],
+    edges: &mut [EdgeRow],
+    faces: &mut [FaceRow],
+    counters: &mut [u32; 3],
+    past: &mut [ArcRow],
+    pastedges: &mut [EdgeRow],
+    x: u32,
+    y: u32,
+) -> Answer
+    requires { ⌜ (length (now past) ≡ length (now arcs)) × (length (now pastedges) ≡ length (now edges)) ⌝ }
+    ensures { λ r. ⌜ ((p : List (List Float)) → step (mesh (now (vertices .exit)) p (now (arcs .exit)) (now (edges .exit)) (now (faces .exit)) (now (counters .exit))) r ≡ arcBridge (mesh (now (vertices .entry)) p (now (arcs .entry)) (now (edges .entry)) (now (faces .entry)) (now (counters .entry))) x y) ⌝ }
+{
+    let check = checks::bridge::arc_bridge_checks(arcs, x, y);
+    if !answers::accepted(check) {
+        return check;
+    }
+    arc_bridge_work(
+        vertices,
+        arcs,
+        edges,
+        faces,
+        counters,
+        past,
+        pastedges,
+        x,
+        y,
+    )
+}
+
+pub fn arc_extrude_work(
+    vertices: &mut [VertexRow],
+    positions: &mut [PositionRow],
+    arcs: &mut [ArcRow],
+    edges: &mut [EdgeRow],
+    faces: &mut [FaceRow],
+    counters: &mut [u32; 3],
+    past: &mut [ArcRow],
+    pastedges: &mut [EdgeRow],
+    x: u32,
+    by: Move,
+) -> Answer
+    requires { ⌜ (length (now past) ≡ length (now arcs)) × (length (now pastedges) ≡ length (now edges)) ⌝ }
+    ensures { λ r. ⌜ step (mesh (now (vertices .exit)) (now (positions .exit)) (now (arcs .exit)) (now (edges .exit)) (now (faces .exit)) (now (counters .exit))) r ≡ arcExtrudeWork (mesh (now (vertices .entry)) (now (positions .entry)) (now (arcs .entry)) (now (edges .entry)) (now (faces .entry)) (now (counters .entry))) x by ⌝ }
+{
+    let b = rows::cell6(arcs, x, 1);
+    let a = rows::cell6(arcs, x, 0);
+    let first = counters[0];
+    let place = points::moved(points::position_at(positions, b), by);
+    let c = edges::vertex::new_vertex(vertices, positions, counters, place);
+    let second = counters[0];
+    let other = points::moved(points::position_at(positions, a), by);
+    let d = edges::vertex::new_vertex(vertices, positions, counters, other);
+    edges::edge::get_or_insert_edge(vertices, arcs, edges, counters, c, d);
+    let y = rows::find_arc(arcs, c, d);
+    let told = arc_bridge(
+        vertices,
+        arcs,
+        edges,
+        faces,
+        counters,
+        past,
+        pastedges,
+        x,
+        y,
+    );
+    pieces::answering(Answer::Arc(first, second), told)
+}
