@@ -1,0 +1,67 @@
+use Prim.Native.Nat.{ℕ}
+use mathlib.Core.Path.{_≡_, refl, ap, sym, _∙_}
+use mathlib.Core.List.{List}
+use lib.ListN.{getD}
+use Rattle.rules.specs.declared.Answer.the-variants.{Key, Mark}
+use Rattle.rules.specs.declared.Edit.{Edit}
+use Rattle.rules.specs.Table.{cell}
+use Rattle.rules.specs.Mesh.{Mesh, mesh}
+use Rattle.rules.specs.Step.{Step, step}
+use Rattle.rules.specs.Insert.{putFace, listsOf, insertWork}
+use Rattle.rules.specs.Edit.{remove, removeWork, splitWork, pokeWork, bridgeWork, arcBridgeWork}
+use Rattle.rules.specs.Extrude.{extrudeWork, arcExtrudeWork}
+use Rattle.rules.specs.Call.{work}
+use borrow.Author.Needs.{needs}
+use Rattle.choice.proofs.arc_bridge.Statement.{statement}
+use Rattle.choice.proofs.arc_bridge.Tie as tie
+
+arc-by-keys-requires : tie.Need-arc-by-keys-requires
+arc-by-keys-requires c κs = search needs
+
+arc-by-keys-requires-2 : tie.Need-arc-by-keys-requires-2
+arc-by-keys-requires-2 c κs = search needs
+
+arc-bridge-work-requires : tie.Need-arc-bridge-work-requires
+arc-bridge-work-requires c κs = search needs
+
+same-length : tie.Need-same-length
+same-length c = search needs
+
+same-length-2 : tie.Need-same-length-2
+same-length-2 c = search needs
+
+same-length-3 : tie.Need-same-length-3
+same-length-3 c = search needs
+
+same-length-4 : tie.Need-same-length-4
+same-length-4 c = search needs
+
+same-length-5 : tie.Need-same-length-5
+same-length-5 c = search needs
+
+same-length-6 : tie.Need-same-length-6
+same-length-6 c = search needs
+
+returns : tie.Need-returns
+unfolding work
+returns c =
+    let x = c .before .before .before .before .before .before .before .before .before .before .before .before .before .before .before .before .before .before .before .before .args in
+    λ p ks.
+    let m = (mesh (x .vertices .now) p (x .arcs .now) (x .edges .now) (x .faces .now) (x .counters .now)) in
+    c .before .before .before .before .before .before .arc-bridge-work .ensures p
+    ∙ (λ i. arcBridgeWork m (c .before .before .before .before .before .before .before .before .before .before .before .before .before .before .before .before .before .arc-by-keys .ensures p (x .edges .now) (x .faces .now) (x .counters .now) i) (c .before .before .before .before .before .before .before .before .before .before .before .before .before .before .arc-by-keys2 .ensures p (x .edges .now) (x .faces .now) (x .counters .now) i))
+
+pub arc-bridge-spec : {M : Type 1} → statement M
+arc-bridge-spec =
+    tie.close
+    (tie.spec
+    arc-by-keys-requires
+    arc-by-keys-requires-2
+    arc-bridge-work-requires
+    same-length
+    same-length-2
+    same-length-3
+    same-length-4
+    same-length-5
+    same-length-6
+    returns)

@@ -1,0 +1,73 @@
+use Prim.Native.Nat.{ℕ}
+use mathlib.Core.Path.{_≡_, refl, ap, sym, _∙_}
+use mathlib.Core.List.{List}
+use lib.ListN.{getD}
+use Rattle.rules.specs.declared.Answer.the-variants.{Key, Mark}
+use Rattle.rules.specs.declared.Edit.{Edit}
+use Rattle.rules.specs.Table.{cell}
+use Rattle.rules.specs.Mesh.{Mesh, mesh}
+use Rattle.rules.specs.Step.{Step, step}
+use Rattle.rules.specs.Insert.{putFace, listsOf, insertWork}
+use Rattle.rules.specs.Edit.{remove, removeWork, splitWork, pokeWork, bridgeWork, arcBridgeWork}
+use Rattle.rules.specs.Extrude.{extrudeWork, arcExtrudeWork}
+use Rattle.rules.specs.Call.{work}
+use Rattle.checks.proofs.Pairs.{per-back}
+use borrow.Author.Needs.{needs}
+use Rattle.choice.proofs.face_insert.Statement.{statement}
+use Rattle.choice.proofs.face_insert.Tie as tie
+
+from-keys-requires : tie.Need-from-keys-requires
+from-keys-requires c κs = search needs
+
+vertices-by-keys-requires : tie.Need-vertices-by-keys-requires
+vertices-by-keys-requires c κs = search needs
+
+element-copy-out-key : tie.Need-element-copy-out-key
+element-copy-out-key c = search needs
+
+insert-work-requires : tie.Need-insert-work-requires
+insert-work-requires c κs = search needs
+
+same-length : tie.Need-same-length
+same-length c = search needs
+
+same-length-2 : tie.Need-same-length-2
+same-length-2 c = search needs
+
+same-length-3 : tie.Need-same-length-3
+same-length-3 c = search needs
+
+same-length-4 : tie.Need-same-length-4
+same-length-4 c = search needs
+
+same-length-5 : tie.Need-same-length-5
+same-length-5 c = search needs
+
+same-length-6 : tie.Need-same-length-6
+same-length-6 c = search needs
+
+returns : tie.Need-returns
+unfolding work insertWork
+returns c =
+    let x = c .before .before .before .before .before .before .before .before .before .before .before .before .before .before .before .before .before .before .before .args in
+    λ p.
+    let m = (mesh (x .vertices .now) p (x .arcs .now) (x .edges .now) (x .faces .now) (x .counters .now)) in
+    ap (λ (t : Mesh). step t (Key (getD (x .counters .now) 2 0))) (c .before .before .before .before .before .before .insert-work .ensures p)
+    ∙ ap (λ (l : List ℕ). step (putFace m l (listsOf m l) (x .mark)) (Key (getD (x .counters .now) 2 0)))
+    (per-back m (x .keys .now) (c .before .before .before .before .before .before .before .before .before .before .before .before .before .before .before .before .before .before .before .pre .1) (c .before .before .before .before .before .before .before .before .before .before .before .before .before .before .before .before .before .from-keys .result) (c .before .before .before .before .before .before .before .before .before .before .before .before .before .before .before .before .before .from-keys .ensures) (c .before .before .before .before .before .before .before .before .before .before .before .before .before .before .before .vertices-by-keys .result) (c .before .before .before .before .before .before .before .before .before .before .before .before .before .before .before .vertices-by-keys .ensures))
+
+pub face-insert-spec : {M : Type 1} → statement M
+face-insert-spec =
+    tie.close
+    (tie.spec
+    from-keys-requires
+    vertices-by-keys-requires
+    element-copy-out-key
+    insert-work-requires
+    same-length
+    same-length-2
+    same-length-3
+    same-length-4
+    same-length-5
+    same-length-6
+    returns)

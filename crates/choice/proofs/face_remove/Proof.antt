@@ -1,0 +1,54 @@
+use Prim.Native.Nat.{ℕ}
+use mathlib.Core.Path.{_≡_, refl, ap, sym, _∙_}
+use mathlib.Core.List.{List}
+use lib.ListN.{getD}
+use Rattle.rules.specs.declared.Answer.the-variants.{Key, Mark}
+use Rattle.rules.specs.declared.Edit.{Edit}
+use Rattle.rules.specs.Table.{cell}
+use Rattle.rules.specs.Mesh.{Mesh, mesh}
+use Rattle.rules.specs.Step.{Step, step}
+use Rattle.rules.specs.Insert.{putFace, listsOf, insertWork}
+use Rattle.rules.specs.Edit.{remove, removeWork, splitWork, pokeWork, bridgeWork, arcBridgeWork}
+use Rattle.rules.specs.Extrude.{extrudeWork, arcExtrudeWork}
+use Rattle.rules.specs.Call.{work}
+use borrow.Author.Needs.{needs}
+use Rattle.choice.proofs.face_remove.Statement.{statement}
+use Rattle.choice.proofs.face_remove.Tie as tie
+
+find-key3-requires : tie.Need-find-key3-requires
+find-key3-requires c κs = search needs
+
+cell3-requires : tie.Need-cell3-requires
+cell3-requires c κs = search needs
+
+remove-face-requires : tie.Need-remove-face-requires
+remove-face-requires c κs = search needs
+
+same-length : tie.Need-same-length
+same-length c = search needs
+
+same-length-2 : tie.Need-same-length-2
+same-length-2 c = search needs
+
+returns : tie.Need-returns
+unfolding work removeWork
+returns c =
+    let x = c .before .before .before .before .before .before .before .before .before .args in
+    let f = c .before .before .before .before .before .before .before .find-key3 in
+    let n = c .before .before .before .before .before .cell3 in
+    λ v p e k ks.
+    let m = mesh v p (x .arcs .now) e (x .faces .now) k in
+    ap (λ (t : Mesh). step t (Mark (n .result))) (c .before .before .remove-face .ensures v p e k)
+    ∙ ap (λ (y : ℕ). step (remove m (f .result)) (Mark y)) (n .ensures)
+    ∙ ap (λ (y : ℕ). step (remove m y) (Mark (cell (x .faces .now) y 2))) (f .ensures)
+
+pub face-remove-spec : {M : Type 1} → statement M
+face-remove-spec =
+    tie.close
+    (tie.spec
+    find-key3-requires
+    cell3-requires
+    remove-face-requires
+    same-length
+    same-length-2
+    returns)

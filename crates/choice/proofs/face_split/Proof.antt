@@ -1,0 +1,71 @@
+use Prim.Native.Nat.{ℕ}
+use mathlib.Core.Path.{_≡_, refl, ap, sym, _∙_}
+use mathlib.Core.List.{List}
+use lib.ListN.{getD}
+use Rattle.rules.specs.declared.Answer.the-variants.{Key, Mark}
+use Rattle.rules.specs.declared.Edit.{Edit}
+use Rattle.rules.specs.Table.{cell}
+use Rattle.rules.specs.Mesh.{Mesh, mesh}
+use Rattle.rules.specs.Step.{Step, step}
+use Rattle.rules.specs.Insert.{putFace, listsOf, insertWork}
+use Rattle.rules.specs.Edit.{remove, removeWork, splitWork, pokeWork, bridgeWork, arcBridgeWork}
+use Rattle.rules.specs.Extrude.{extrudeWork, arcExtrudeWork}
+use Rattle.rules.specs.Call.{work}
+use borrow.Author.Needs.{needs}
+use Rattle.choice.proofs.face_split.Statement.{statement}
+use Rattle.choice.proofs.face_split.Tie as tie
+
+find-key3-requires : tie.Need-find-key3-requires
+find-key3-requires c κs = search needs
+
+find-key2-requires : tie.Need-find-key2-requires
+find-key2-requires c κs = search needs
+
+find-key2-requires-2 : tie.Need-find-key2-requires-2
+find-key2-requires-2 c κs = search needs
+
+split-work-requires : tie.Need-split-work-requires
+split-work-requires c κs = search needs
+
+same-length : tie.Need-same-length
+same-length c = search needs
+
+same-length-2 : tie.Need-same-length-2
+same-length-2 c = search needs
+
+same-length-3 : tie.Need-same-length-3
+same-length-3 c = search needs
+
+same-length-4 : tie.Need-same-length-4
+same-length-4 c = search needs
+
+same-length-5 : tie.Need-same-length-5
+same-length-5 c = search needs
+
+same-length-6 : tie.Need-same-length-6
+same-length-6 c = search needs
+
+returns : tie.Need-returns
+unfolding work
+returns c =
+    let x = c .before .before .before .before .before .before .before .before .before .before .before .before .before .before .before .before .before .before .before .before .args in
+    λ p ks.
+    let m = (mesh (x .vertices .now) p (x .arcs .now) (x .edges .now) (x .faces .now) (x .counters .now)) in
+    c .before .before .before .before .before .before .split-work .ensures p
+    ∙ (λ i. splitWork m (c .before .before .before .before .before .before .before .before .before .before .before .before .before .before .before .before .before .before .find-key3 .ensures i) (c .before .before .before .before .before .before .before .before .before .before .before .before .before .before .before .before .find-key2 .ensures i) (c .before .before .before .before .before .before .before .before .before .before .before .before .before .before .find-key22 .ensures i))
+
+pub face-split-spec : {M : Type 1} → statement M
+face-split-spec =
+    tie.close
+    (tie.spec
+    find-key3-requires
+    find-key2-requires
+    find-key2-requires-2
+    split-work-requires
+    same-length
+    same-length-2
+    same-length-3
+    same-length-4
+    same-length-5
+    same-length-6
+    returns)

@@ -1,0 +1,367 @@
+// The edits by keys, each on one set of tables behind its checks, and the choice among them: document 01's nine edits.
+
+use rules::Answer;
+use rules::ArcRow;
+use rules::EdgeRow;
+use rules::Edit;
+use rules::FaceRow;
+use rules::Move;
+use rules::Position;
+use rules::PositionRow;
+use rules::VertexRow;
+use tables::rows;
+ghost use mathlib.Core.Path.{_≡_};
+ghost use mathlib.Core.List.{List};
+ghost use Prim.Native.Nat.{ℕ, _≤_};
+ghost use lib.ListN.{length};
+ghost use lib.Ieee.{Float};
+ghost use Rattle.rules.specs.declared.Edit.the-variants.{VertexInsert, FaceInsert, FaceRemove, FaceSplit, FacePoke, FaceBridge, FaceExtrude, ArcBridge, ArcExtrude};
+ghost use Rattle.rules.specs.Table.{Table};
+ghost use Rattle.rules.specs.Mesh.{mesh};
+ghost use Rattle.rules.specs.Step.{step};
+ghost use Rattle.rules.specs.Call as Call;
+
+fn vertex_insert(
+    vertices: &mut [VertexRow],
+    positions: &mut [PositionRow],
+    counters: &mut [u32; 3],
+    position: Position,
+) -> Answer
+    ensures { λ r. ⌜ ((a e f : Table) (ks : List ℕ) → step (mesh (now (vertices .exit)) (now (positions .exit)) a e f (now (counters .exit))) r ≡ Call.work (mesh (now (vertices .entry)) (now (positions .entry)) a e f (now (counters .entry))) (VertexInsert position) ks) ⌝ }
+{
+    let key = counters[0];
+    edges::vertex::new_vertex(vertices, positions, counters, position);
+    Answer::Key(key)
+}
+
+// Of at most 64 keys.
+fn face_insert(
+    vertices: &mut [VertexRow],
+    arcs: &mut [ArcRow],
+    edges: &mut [EdgeRow],
+    faces: &mut [FaceRow],
+    counters: &mut [u32; 3],
+    past: &mut [ArcRow],
+    pastedges: &mut [EdgeRow],
+    mark: u32,
+    keys: &[u32],
+) -> Answer
+    requires { ⌜ (length (now past) ≡ length (now arcs)) × (length (now pastedges) ≡ length (now edges)) ⌝ }
+    requires { ⌜ length (now keys) ≤ 64 ⌝ }
+    ensures { λ r. ⌜ ((p : List (List Float)) → step (mesh (now (vertices .exit)) p (now (arcs .exit)) (now (edges .exit)) (now (faces .exit)) (now (counters .exit))) r ≡ Call.work (mesh (now (vertices .entry)) p (now (arcs .entry)) (now (edges .entry)) (now (faces .entry)) (now (counters .entry))) (FaceInsert mark) (now (keys .entry))) ⌝ }
+{
+    let names = lists::from_keys(keys);
+    let per = lists::vertices_by_keys(vertices, names);
+    let key = counters[2];
+    insert::face::insert_work(
+        vertices,
+        arcs,
+        edges,
+        faces,
+        counters,
+        past,
+        pastedges,
+        per,
+        mark,
+    );
+    Answer::Key(key)
+}
+
+fn face_remove(arcs: &mut [ArcRow], faces: &mut [FaceRow], face: u32) -> Answer
+    ensures { λ r. ⌜ ((v : Table) (p : List (List Float)) (e : Table) (k ks : List ℕ) → step (mesh v p (now (arcs .exit)) e (now (faces .exit)) k) r ≡ Call.work (mesh v p (now (arcs .entry)) e (now (faces .entry)) k) (FaceRemove face) ks) ⌝ }
+{
+    let f = rows::find_key3(faces, face);
+    let mark = rows::cell3(faces, f, 2);
+    edges::face::remove_face(arcs, faces, f);
+    Answer::Mark(mark)
+}
+
+fn face_split(
+    vertices: &mut [VertexRow],
+    arcs: &mut [ArcRow],
+    edges: &mut [EdgeRow],
+    faces: &mut [FaceRow],
+    counters: &mut [u32; 3],
+    past: &mut [ArcRow],
+    pastedges: &mut [EdgeRow],
+    face: u32,
+    s: u32,
+    d: u32,
+) -> Answer
+    requires { ⌜ (length (now past) ≡ length (now arcs)) × (length (now pastedges) ≡ length (now edges)) ⌝ }
+    ensures { λ r. ⌜ ((p : List (List Float)) (ks : List ℕ) → step (mesh (now (vertices .exit)) p (now (arcs .exit)) (now (edges .exit)) (now (faces .exit)) (now (counters .exit))) r ≡ Call.work (mesh (now (vertices .entry)) p (now (arcs .entry)) (now (edges .entry)) (now (faces .entry)) (now (counters .entry))) (FaceSplit face s d) ks) ⌝ }
+{
+    let f = rows::find_key3(faces, face);
+    let from = rows::find_key2(vertices, s);
+    let to = rows::find_key2(vertices, d);
+    edits::split::split_work(
+        vertices,
+        arcs,
+        edges,
+        faces,
+        counters,
+        past,
+        pastedges,
+        f,
+        from,
+        to,
+    )
+}
+
+fn face_poke(
+    vertices: &mut [VertexRow],
+    positions: &mut [PositionRow],
+    arcs: &mut [ArcRow],
+    edges: &mut [EdgeRow],
+    faces: &mut [FaceRow],
+    counters: &mut [u32; 3],
+    past: &mut [ArcRow],
+    pastedges: &mut [EdgeRow],
+    face: u32,
+    position: Position,
+) -> Answer
+    requires { ⌜ (length (now past) ≡ length (now arcs)) × (length (now pastedges) ≡ length (now edges)) ⌝ }
+    ensures { λ r. ⌜ ((ks : List ℕ) → step (mesh (now (vertices .exit)) (now (positions .exit)) (now (arcs .exit)) (now (edges .exit)) (now (faces .exit)) (now (counters .exit))) r ≡ Call.work (mesh (now (vertices .entry)) (now (positions .entry)) (now (arcs .entry)) (now (edges .entry)) (now (faces .entry)) (now (counters .entry))) (FacePoke face position) ks) ⌝ }
+{
+    let f = rows::find_key3(faces, face);
+    edits::poke::poke_work(
+        vertices,
+        positions,
+        arcs,
+        edges,
+        faces,
+        counters,
+        past,
+        pastedges,
+        f,
+        position,
+    )
+}
+
+fn face_bridge(
+    vertices: &mut [VertexRow],
+    arcs: &mut [ArcRow],
+    edges: &mut [EdgeRow],
+    faces: &mut [FaceRow],
+    counters: &mut [u32; 3],
+    past: &mut [ArcRow],
+    pastedges: &mut [EdgeRow],
+    source: u32,
+    destination: u32,
+) -> Answer
+    requires { ⌜ (length (now past) ≡ length (now arcs)) × (length (now pastedges) ≡ length (now edges)) ⌝ }
+    ensures { λ r. ⌜ ((p : List (List Float)) (ks : List ℕ) → step (mesh (now (vertices .exit)) p (now (arcs .exit)) (now (edges .exit)) (now (faces .exit)) (now (counters .exit))) r ≡ Call.work (mesh (now (vertices .entry)) p (now (arcs .entry)) (now (edges .entry)) (now (faces .entry)) (now (counters .entry))) (FaceBridge source destination) ks) ⌝ }
+{
+    let f = rows::find_key3(faces, source);
+    let g = rows::find_key3(faces, destination);
+    edits::bridge::bridge_work(
+        vertices,
+        arcs,
+        edges,
+        faces,
+        counters,
+        past,
+        pastedges,
+        f,
+        g,
+    )
+}
+
+fn face_extrude(
+    vertices: &mut [VertexRow],
+    positions: &mut [PositionRow],
+    arcs: &mut [ArcRow],
+    edges: &mut [EdgeRow],
+    faces: &mut [FaceRow],
+    counters: &mut [u32; 3],
+    past: &mut [ArcRow],
+    pastedges: &mut [EdgeRow],
+    face: u32,
+    by: Move,
+) -> Answer
+    requires { ⌜ (length (now past) ≡ length (now arcs)) × (length (now pastedges) ≡ length (now edges)) ⌝ }
+    ensures { λ r. ⌜ ((ks : List ℕ) → step (mesh (now (vertices .exit)) (now (positions .exit)) (now (arcs .exit)) (now (edges .exit)) (now (faces .exit)) (now (counters .exit))) r ≡ Call.work (mesh (now (vertices .entry)) (now (positions .entry)) (now (arcs .entry)) (now (edges .entry)) (now (faces .entry)) (now (counters .entry))) (FaceExtrude face by) ks) ⌝ }
+{
+    let f = rows::find_key3(faces, face);
+    edits::extrude::extrude_work(
+        vertices,
+        positions,
+        arcs,
+        edges,
+        faces,
+        counters,
+        past,
+        pastedges,
+        f,
+        by,
+    )
+}
+
+fn arc_bridge(
+    vertices: &mut [VertexRow],
+    arcs: &mut [ArcRow],
+    edges: &mut [EdgeRow],
+    faces: &mut [FaceRow],
+    counters: &mut [u32; 3],
+    past: &mut [ArcRow],
+    pastedges: &mut [EdgeRow],
+    a: u32,
+    b: u32,
+    c: u32,
+    d: u32,
+) -> Answer
+    requires { ⌜ (length (now past) ≡ length (now arcs)) × (length (now pastedges) ≡ length (now edges)) ⌝ }
+    ensures { λ r. ⌜ ((p : List (List Float)) (ks : List ℕ) → step (mesh (now (vertices .exit)) p (now (arcs .exit)) (now (edges .exit)) (now (faces .exit)) (now (counters .exit))) r ≡ Call.work (mesh (now (vertices .entry)) p (now (arcs .entry)) (now (edges .entry)) (now (faces .entry)) (now (counters .entry))) (ArcBridge a b c d) ks) ⌝ }
+{
+    let x = checks::call::arc_by_keys(vertices, arcs, a, b);
+    let y = checks::call::arc_by_keys(vertices, arcs, c, d);
+    edits::arc::arc_bridge_work(
+        vertices,
+        arcs,
+        edges,
+        faces,
+        counters,
+        past,
+        pastedges,
+        x,
+        y,
+    )
+}
+
+fn arc_extrude(
+    vertices: &mut [VertexRow],
+    positions: &mut [PositionRow],
+    arcs: &mut [ArcRow],
+    edges: &mut [EdgeRow],
+    faces: &mut [FaceRow],
+    counters: &mut [u32; 3],
+    past: &mut [ArcRow],
+    pastedges: &mut [EdgeRow],
+    s: u32,
+    d: u32,
+    by: Move,
+) -> Answer
+    requires { ⌜ (length (now past) ≡ length (now arcs)) × (length (now pastedges) ≡ length (now edges)) ⌝ }
+    ensures { λ r. ⌜ ((ks : List ℕ) → step (mesh (now (vertices .exit)) (now (positions .exit)) (now (arcs .exit)) (now (edges .exit)) (now (faces .exit)) (now (counters .exit))) r ≡ Call.work (mesh (now (vertices .entry)) (now (positions .entry)) (now (arcs .entry)) (now (edges .entry)) (now (faces .entry)) (now (counters .entry))) (ArcExtrude s d by) ks) ⌝ }
+{
+    let x = checks::call::arc_by_keys(vertices, arcs, s, d);
+    edits::arc::arc_extrude_work(
+        vertices,
+        positions,
+        arcs,
+        edges,
+        faces,
+        counters,
+        past,
+        pastedges,
+        x,
+        by,
+    )
+}
+
+// The edit that is chosen. A face insert has at most 64 keys.
+pub fn work(
+    vertices: &mut [VertexRow],
+    positions: &mut [PositionRow],
+    arcs: &mut [ArcRow],
+    edges: &mut [EdgeRow],
+    faces: &mut [FaceRow],
+    counters: &mut [u32; 3],
+    past: &mut [ArcRow],
+    pastedges: &mut [EdgeRow],
+    edit: Edit,
+    keys: &[u32],
+) -> Answer
+    requires { ⌜ (length (now past) ≡ length (now arcs)) × (length (now pastedges) ≡ length (now edges)) ⌝ }
+    requires { ⌜ ((mark : ℕ) → edit ≡ FaceInsert mark → length (now keys) ≤ 64) ⌝ }
+    ensures { λ r. ⌜ step (mesh (now (vertices .exit)) (now (positions .exit)) (now (arcs .exit)) (now (edges .exit)) (now (faces .exit)) (now (counters .exit))) r ≡ Call.work (mesh (now (vertices .entry)) (now (positions .entry)) (now (arcs .entry)) (now (edges .entry)) (now (faces .entry)) (now (counters .entry))) edit (now (keys .entry)) ⌝ }
+{
+    match edit {
+        Edit::VertexInsert(position) => vertex_insert(vertices, positions, counters, position),
+        Edit::FaceInsert(mark) => face_insert(
+            vertices,
+            arcs,
+            edges,
+            faces,
+            counters,
+            past,
+            pastedges,
+            mark,
+            keys,
+        ),
+        Edit::FaceRemove(face) => face_remove(arcs, faces, face),
+        Edit::FaceSplit(face, s, d) => face_split(
+            vertices,
+            arcs,
+            edges,
+            faces,
+            counters,
+            past,
+            pastedges,
+            face,
+            s,
+            d,
+        ),
+        Edit::FacePoke(face, position) => face_poke(
+            vertices,
+            positions,
+            arcs,
+            edges,
+            faces,
+            counters,
+            past,
+            pastedges,
+            face,
+            position,
+        ),
+        Edit::FaceBridge(source, destination) => face_bridge(
+            vertices,
+            arcs,
+            edges,
+            faces,
+            counters,
+            past,
+            pastedges,
+            source,
+            destination,
+        ),
+        Edit::FaceExtrude(face, by) => face_extrude(
+            vertices,
+            positions,
+            arcs,
+            edges,
+            faces,
+            counters,
+            past,
+            pastedges,
+            face,
+            by,
+        ),
+        Edit::ArcBridge(a, b, c, d) => arc_bridge(
+            vertices,
+            arcs,
+            edges,
+            faces,
+            counters,
+            past,
+            pastedges,
+            a,
+            b,
+            c,
+            d,
+        ),
+        Edit::ArcExtrude(s, d, by) => arc_extrude(
+            vertices,
+            positions,
+            arcs,
+            edges,
+            faces,
+            counters,
+            past,
+            pastedges,
+            s,
+            d,
+            by,
+        ),
+    }
+}

@@ -1,0 +1,79 @@
+use Prim.Native.Nat.{ℕ, _≤_}
+use mathlib.Core.Path.{_≡_, refl, ap, sym, _∙_}
+use mathlib.Core.List.{List}
+use borrow.Author.Tests.{not-true, not-false}
+use Rattle.rules.specs.Mesh.{Mesh, mesh, Room, room}
+use Rattle.rules.specs.Call.{needs as needsOf}
+use Rattle.checks.proofs.Pairs.{given-few}
+use Rattle.mesh.proofs.Deciding.{not-given, checks-refuse, not-moves, not-room, all-passed}
+use borrow.Author.Needs.{needs}
+use Rattle.mesh.proofs.decide.decide.Statement.{statement}
+use Rattle.mesh.proofs.decide.decide.Tie as tie
+
+given-requires : tie.Need-given-requires
+given-requires c κs = search needs
+
+returns : tie.Need-returns
+returns c =
+    let x = c .before .before .before .args in
+    not-given (mesh (x .vertices .now) (x .positions .now) (x .arcs .now) (x .edges .now) (x .faces .now) (x .counters .now)) (x .edit) (x .keys .now) (sym (c .before .given .ensures) ∙ not-true _ (c .if1 .taken))
+
+checks-of-requires : tie.Need-checks-of-requires
+checks-of-requires c κs = search needs
+
+accepted-requires : tie.Need-accepted-requires
+accepted-requires c κs = search needs
+
+returns-2 : tie.Need-returns-2
+returns-2 c =
+    let x = c .before .before .before .before .before .before .args in
+    checks-refuse (mesh (x .vertices .now) (x .positions .now) (x .arcs .now) (x .edges .now) (x .faces .now) (x .counters .now)) (x .edit) (x .keys .now) (sym (c .before .before .before .before .given .ensures) ∙ not-false _ (c .before .before .before .if1 .left)) (c .before .before .checks-of .result)
+    (c .before .before .checks-of .ensures (given-few (x .edit) (x .keys .now) (sym (c .before .before .before .before .given .ensures) ∙ not-false _ (c .before .before .before .if1 .left))) (x .positions .now) (x .edges .now) (x .counters .now))
+    (sym (c .before .accepted .ensures) ∙ not-true _ (c .if2 .taken))
+
+moves-finite-requires : tie.Need-moves-finite-requires
+moves-finite-requires c κs = search needs
+
+returns-3 : tie.Need-returns-3
+returns-3 c =
+    let x = c .before .before .before .before .before .before .before .before .args in
+    not-moves (mesh (x .vertices .now) (x .positions .now) (x .arcs .now) (x .edges .now) (x .faces .now) (x .counters .now)) (x .edit) (x .keys .now) (sym (c .before .before .before .before .before .before .given .ensures) ∙ not-false _ (c .before .before .before .before .before .if1 .left)) (c .before .before .before .before .checks-of .result) (c .before .before .before .before .checks-of .ensures (given-few (x .edit) (x .keys .now) (sym (c .before .before .before .before .before .before .given .ensures) ∙ not-false _ (c .before .before .before .before .before .if1 .left))) (x .positions .now) (x .edges .now) (x .counters .now)) (sym (c .before .before .before .accepted .ensures) ∙ not-false _ (c .before .before .if2 .left))
+    (sym (c .before .moves-finite .ensures (x .edges .now) (x .counters .now)) ∙ not-true _ (c .if3 .taken))
+
+need-of-requires : tie.Need-need-of-requires
+need-of-requires c κs = search needs
+
+room-for-requires : tie.Need-room-for-requires
+room-for-requires c κs = search needs
+
+returns-4 : tie.Need-returns-4
+returns-4 c =
+    let x = c .before .before .before .before .before .before .before .before .before .before .before .args in
+    not-room (mesh (x .vertices .now) (x .positions .now) (x .arcs .now) (x .edges .now) (x .faces .now) (x .counters .now)) (x .edit) (x .keys .now) (sym (c .before .before .before .before .before .before .before .before .before .given .ensures) ∙ not-false _ (c .before .before .before .before .before .before .before .before .if1 .left)) (c .before .before .before .before .before .before .before .checks-of .result) (c .before .before .before .before .before .before .before .checks-of .ensures (given-few (x .edit) (x .keys .now) (sym (c .before .before .before .before .before .before .before .before .before .given .ensures) ∙ not-false _ (c .before .before .before .before .before .before .before .before .if1 .left))) (x .positions .now) (x .edges .now) (x .counters .now)) (sym (c .before .before .before .before .before .before .accepted .ensures) ∙ not-false _ (c .before .before .before .before .before .if2 .left))
+    (sym (c .before .before .before .before .moves-finite .ensures (x .edges .now) (x .counters .now)) ∙ not-false _ (c .before .before .before .if3 .left))
+    (needsOf (c .before .before .need-of .result .vertices) (c .before .before .need-of .result .edges) (c .before .before .need-of .result .faces) (c .before .before .need-of .result .facekeys)) (c .before .before .need-of .ensures (given-few (x .edit) (x .keys .now) (sym (c .before .before .before .before .before .before .before .before .before .given .ensures) ∙ not-false _ (c .before .before .before .before .before .before .before .before .if1 .left))) (x .positions .now) (x .edges .now) (x .counters .now))
+    (sym (c .before .room-for .ensures (x .positions .now) (x .arcs .now)) ∙ not-true _ (c .if4 .taken))
+
+returns-5 : tie.Need-returns-5
+returns-5 c =
+    let x = c .before .before .before .before .before .before .before .before .before .before .before .args in
+    all-passed (mesh (x .vertices .now) (x .positions .now) (x .arcs .now) (x .edges .now) (x .faces .now) (x .counters .now)) (x .edit) (x .keys .now) (sym (c .before .before .before .before .before .before .before .before .before .given .ensures) ∙ not-false _ (c .before .before .before .before .before .before .before .before .if1 .left)) (c .before .before .before .before .before .before .before .checks-of .result) (c .before .before .before .before .before .before .before .checks-of .ensures (given-few (x .edit) (x .keys .now) (sym (c .before .before .before .before .before .before .before .before .before .given .ensures) ∙ not-false _ (c .before .before .before .before .before .before .before .before .if1 .left))) (x .positions .now) (x .edges .now) (x .counters .now)) (sym (c .before .before .before .before .before .before .accepted .ensures) ∙ not-false _ (c .before .before .before .before .before .if2 .left))
+    (sym (c .before .before .before .before .moves-finite .ensures (x .edges .now) (x .counters .now)) ∙ not-false _ (c .before .before .before .if3 .left))
+    (needsOf (c .before .before .need-of .result .vertices) (c .before .before .need-of .result .edges) (c .before .before .need-of .result .faces) (c .before .before .need-of .result .facekeys)) (c .before .before .need-of .ensures (given-few (x .edit) (x .keys .now) (sym (c .before .before .before .before .before .before .before .before .before .given .ensures) ∙ not-false _ (c .before .before .before .before .before .before .before .before .if1 .left))) (x .positions .now) (x .edges .now) (x .counters .now))
+    (sym (c .before .room-for .ensures (x .positions .now) (x .arcs .now)) ∙ not-false _ (c .if4 .left))
+
+pub decide-spec : {M : Type 1} → statement M
+decide-spec =
+    tie.close
+    (tie.spec
+    given-requires
+    returns
+    checks-of-requires
+    accepted-requires
+    returns-2
+    moves-finite-requires
+    returns-3
+    need-of-requires
+    room-for-requires
+    returns-4
+    returns-5)

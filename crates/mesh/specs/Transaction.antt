@@ -1,0 +1,52 @@
+-- A call in the pieces in which the code goes through it: what is decided before the first change, the work in room one, and what is
+-- settled at the end.
+use mathlib.Core.Path.{_≡_}
+use mathlib.Core.Bool.{Bool, not, cond}
+use mathlib.Core.List.{List}
+use Prim.Native.Nat.{ℕ, _≤_}
+use lib.ListN.{length}
+use Rattle.rules.specs.declared.Answer.{Answer}
+use Rattle.rules.specs.declared.Answer.the-variants.{Done, Refused}
+use Rattle.rules.specs.declared.Refusal.the-variants.{Argument, NoRoom}
+use Rattle.rules.specs.Table.{Table}
+use Rattle.rules.specs.declared.Edit.{Edit}
+use Rattle.rules.specs.Mesh.{Mesh, Room}
+use Rattle.rules.specs.Step.{Step, accepted}
+use Rattle.rules.specs.Call.{kept, given, checks, movesFinite, roomFor, need}
+
+-- what is answered and which mesh is left
+pub record Left : Type 0 where
+  pub answer : Answer
+  pub mesh : Mesh
+
+abbrev pub left : Answer → Mesh → Left
+left a m = record { answer = a; mesh = m }
+
+-- a step of an edit over the mesh m: its answer, and its tables if it is accepted
+unfoldable pub over : Mesh → Step → Left
+over m s = left (s .answer) (kept m s)
+
+-- tables of the same sizes
+pub record SameSize (m n : Mesh) : Type 0 where
+  pub vertices : length (m .vertices) ≡ length (n .vertices)
+  pub positions : length (m .positions) ≡ length (n .positions)
+  pub arcs : length (m .arcs) ≡ length (n .arcs)
+  pub edges : length (m .edges) ≡ length (n .edges)
+  pub faces : length (m .faces) ≡ length (n .faces)
+
+-- what is decided before the first change: 2 for what the caller gave, the Rust's checks, 2 for moved coordinates, 7; or done
+unfoldable pub beforeWork : Mesh → Edit → List ℕ → Answer
+beforeWork m e keys =
+    cond (not (given e keys)) (Refused Argument)
+    (cond (not (accepted (checks m e keys))) (checks m e keys)
+    (cond (not (movesFinite m e)) (Refused Argument) (cond (not (roomFor m (need m e keys))) (Refused NoRoom) Done)))
+
+-- a room whose tables are not shorter than the mesh's, and two tables besides
+pub record Fits (m : Mesh) (r : Room) (a e : Table) : Type 0 where
+  pub vertices : length (m .vertices) ≤ length (r .vertices)
+  pub positions : length (m .positions) ≤ length (r .positions)
+  pub arcs : length (m .arcs) ≤ length (r .arcs)
+  pub edges : length (m .edges) ≤ length (r .edges)
+  pub faces : length (m .faces) ≤ length (r .faces)
+  pub past : length (m .arcs) ≤ length a
+  pub pastedges : length (m .edges) ≤ length e

@@ -1,0 +1,188 @@
+// A call of any edit. Document 01: "Order: 1; 2 for what the caller gave; the Rust's checks before its first change, in its order; 2 for
+// moved coordinates; 7; the Rust's refusals in mid-edit; 8", and "Working room ends all zero, accepted or not; answer 1 alone leaves it
+// untouched."
+
+use crate::decide;
+use crate::settle;
+use rules::Answer;
+use rules::ArcRow;
+use rules::Call;
+use rules::EdgeRow;
+use rules::Edit;
+use rules::FaceRow;
+use rules::PositionRow;
+use rules::Refusal;
+use rules::VertexRow;
+use tables::answers;
+use tables::sets;
+ghost use mathlib.Core.Path.{_≡_};
+ghost use lib.ListN.{length};
+ghost use Rattle.rules.specs.Mesh.{mesh, room};
+ghost use Rattle.rules.specs.Call.{decided, called, outcome};
+ghost use Rattle.mesh.specs.Transaction.{left, over, SameSize, Fits};
+
+// The edit in room that is as long as the mesh, and what is settled.
+fn perform(
+    vertices: &mut [VertexRow],
+    positions: &mut [PositionRow],
+    arcs: &mut [ArcRow],
+    edges: &mut [EdgeRow],
+    faces: &mut [FaceRow],
+    counters: &mut [u32; 3],
+    v: &mut [VertexRow],
+    p: &mut [PositionRow],
+    a: &mut [ArcRow],
+    e: &mut [EdgeRow],
+    f: &mut [FaceRow],
+    past: &mut [ArcRow],
+    pastedges: &mut [EdgeRow],
+    edit: Edit,
+    keys: &[u32],
+) -> Answer
+    requires { ⌜ SameSize (mesh (now vertices) (now positions) (now arcs) (now edges) (now faces) (now counters)) (mesh (now v) (now p) (now a) (now e) (now f) (now counters)) ⌝ }
+    requires { ⌜ (length (now past) ≡ length (now arcs)) × (length (now pastedges) ≡ length (now edges)) ⌝ }
+    ensures { λ r. ⌜ left r (mesh (now (vertices .exit)) (now (positions .exit)) (now (arcs .exit)) (now (edges .exit)) (now (faces .exit)) (now (counters .exit))) ≡ over (mesh (now (vertices .entry)) (now (positions .entry)) (now (arcs .entry)) (now (edges .entry)) (now (faces .entry)) (now (counters .entry))) (decided (mesh (now (vertices .entry)) (now (positions .entry)) (now (arcs .entry)) (now (edges .entry)) (now (faces .entry)) (now (counters .entry))) edit (now (keys .entry))) ⌝ }
+{
+    let first = decide::decide(
+        vertices,
+        positions,
+        arcs,
+        edges,
+        faces,
+        counters,
+        edit,
+        keys,
+    );
+    if !answers::accepted(first) {
+        return first;
+    }
+    sets::copy_set(v, p, a, e, f, vertices, positions, arcs, edges, faces);
+    let mut k = *counters;
+    let told = choice::work(v, p, a, e, f, &mut k, past, pastedges, edit, keys);
+    settle::settle(
+        vertices,
+        positions,
+        arcs,
+        edges,
+        faces,
+        counters,
+        v,
+        p,
+        a,
+        e,
+        f,
+        k,
+        told,
+    )
+}
+
+// The same with rooms that may be larger than the mesh: the parts of them that are as long as the mesh.
+fn perform_in_parts(
+    vertices: &mut [VertexRow],
+    positions: &mut [PositionRow],
+    arcs: &mut [ArcRow],
+    edges: &mut [EdgeRow],
+    faces: &mut [FaceRow],
+    counters: &mut [u32; 3],
+    v: &mut [VertexRow],
+    p: &mut [PositionRow],
+    a: &mut [ArcRow],
+    e: &mut [EdgeRow],
+    f: &mut [FaceRow],
+    past: &mut [ArcRow],
+    pastedges: &mut [EdgeRow],
+    edit: Edit,
+    keys: &[u32],
+) -> Answer
+    requires { ⌜ Fits (mesh (now vertices) (now positions) (now arcs) (now edges) (now faces) (now counters)) (room (now v) (now p) (now a) (now e) (now f)) (now past) (now pastedges) ⌝ }
+    ensures { λ r. ⌜ left r (mesh (now (vertices .exit)) (now (positions .exit)) (now (arcs .exit)) (now (edges .exit)) (now (faces .exit)) (now (counters .exit))) ≡ over (mesh (now (vertices .entry)) (now (positions .entry)) (now (arcs .entry)) (now (edges .entry)) (now (faces .entry)) (now (counters .entry))) (decided (mesh (now (vertices .entry)) (now (positions .entry)) (now (arcs .entry)) (now (edges .entry)) (now (faces .entry)) (now (counters .entry))) edit (now (keys .entry))) ⌝ }
+{
+    let nv = vertices.len();
+    let np = positions.len();
+    let na = arcs.len();
+    let ne = edges.len();
+    let nf = faces.len();
+    perform(
+        vertices,
+        positions,
+        arcs,
+        edges,
+        faces,
+        counters,
+        &mut v[0..nv],
+        &mut p[0..np],
+        &mut a[0..na],
+        &mut e[0..ne],
+        &mut f[0..nf],
+        &mut past[0..na],
+        &mut pastedges[0..ne],
+        edit,
+        keys,
+    )
+}
+
+// The call: what it answers and leaves is `called`, for every lent table, counter, room and argument.
+pub fn change(
+    vertices: &mut [VertexRow],
+    positions: &mut [PositionRow],
+    arcs: &mut [ArcRow],
+    edges: &mut [EdgeRow],
+    faces: &mut [FaceRow],
+    counters: &mut [u32; 3],
+    v1: &mut [VertexRow],
+    p1: &mut [PositionRow],
+    a1: &mut [ArcRow],
+    e1: &mut [EdgeRow],
+    f1: &mut [FaceRow],
+    v2: &mut [VertexRow],
+    p2: &mut [PositionRow],
+    a2: &mut [ArcRow],
+    e2: &mut [EdgeRow],
+    f2: &mut [FaceRow],
+    call: Call,
+    keys: &[u32],
+) -> Answer
+    ensures { λ r. ⌜ outcome r (mesh (now (vertices .exit)) (now (positions .exit)) (now (arcs .exit)) (now (edges .exit)) (now (faces .exit)) (now (counters .exit))) (room (now (v1 .exit)) (now (p1 .exit)) (now (a1 .exit)) (now (e1 .exit)) (now (f1 .exit))) (room (now (v2 .exit)) (now (p2 .exit)) (now (a2 .exit)) (now (e2 .exit)) (now (f2 .exit))) ≡ called (mesh (now (vertices .entry)) (now (positions .entry)) (now (arcs .entry)) (now (edges .entry)) (now (faces .entry)) (now (counters .entry))) (room (now (v1 .entry)) (now (p1 .entry)) (now (a1 .entry)) (now (e1 .entry)) (now (f1 .entry))) (room (now (v2 .entry)) (now (p2 .entry)) (now (a2 .entry)) (now (e2 .entry)) (now (f2 .entry))) call (now (keys .entry)) ⌝ }
+{
+    if !decide::is_ready(
+        vertices,
+        positions,
+        arcs,
+        edges,
+        faces,
+        counters,
+        v1,
+        p1,
+        a1,
+        e1,
+        f1,
+        v2,
+        p2,
+        a2,
+        e2,
+        f2,
+    ) {
+        return Answer::Refused(Refusal::Tables);
+    }
+    let edit = call.edit;
+    let answer = perform_in_parts(
+        vertices,
+        positions,
+        arcs,
+        edges,
+        faces,
+        counters,
+        v1,
+        p1,
+        a1,
+        e1,
+        f1,
+        a2,
+        e2,
+        edit,
+        keys,
+    );
+    sets::zero_set(v1, p1, a1, e1, f1);
+    sets::zero_set(v2, p2, a2, e2, f2);
+    answer
+}

@@ -1,0 +1,77 @@
+// What is decided before the first change, and whether a call can begin. Document 01's answers 1, 2, the Rust's checks before its first
+// change, 2 for moved coordinates, and 7, in that order.
+
+use rules::Answer;
+use rules::ArcRow;
+use rules::EdgeRow;
+use rules::Edit;
+use rules::FaceRow;
+use rules::PositionRow;
+use rules::Refusal;
+use rules::VertexRow;
+use tables::answers;
+use tables::sets;
+ghost use mathlib.Core.Path.{_≡_};
+ghost use Rattle.rules.specs.Mesh.{mesh, room};
+ghost use Rattle.rules.specs.Call.{ready};
+ghost use Rattle.mesh.specs.Transaction.{beforeWork};
+
+// Sizes, limits and soundness of the mesh, and rooms that are not too small.
+pub fn is_ready(
+    vertices: &[VertexRow],
+    positions: &[PositionRow],
+    arcs: &[ArcRow],
+    edges: &[EdgeRow],
+    faces: &[FaceRow],
+    counters: &[u32; 3],
+    v1: &[VertexRow],
+    p1: &[PositionRow],
+    a1: &[ArcRow],
+    e1: &[EdgeRow],
+    f1: &[FaceRow],
+    v2: &[VertexRow],
+    p2: &[PositionRow],
+    a2: &[ArcRow],
+    e2: &[EdgeRow],
+    f2: &[FaceRow],
+) -> bool
+    ensures { λ r. ⌜ r ≡ ready (mesh (now (vertices .entry)) (now (positions .entry)) (now (arcs .entry)) (now (edges .entry)) (now (faces .entry)) (now (counters .entry))) (room (now (v1 .entry)) (now (p1 .entry)) (now (a1 .entry)) (now (e1 .entry)) (now (f1 .entry))) (room (now (v2 .entry)) (now (p2 .entry)) (now (a2 .entry)) (now (e2 .entry)) (now (f2 .entry))) ⌝ }
+{
+    if !sets::room_enough(vertices, positions, arcs, edges, faces, v1, p1, a1, e1, f1) {
+        return false;
+    }
+    if !sets::room_enough(vertices, positions, arcs, edges, faces, v2, p2, a2, e2, f2) {
+        return false;
+    }
+    sound::queries::is_sound(vertices, positions, arcs, edges, faces, counters)
+}
+
+// What is decided before the first change: a refusal, or done.
+pub fn decide(
+    vertices: &[VertexRow],
+    positions: &[PositionRow],
+    arcs: &[ArcRow],
+    edges: &[EdgeRow],
+    faces: &[FaceRow],
+    counters: &[u32; 3],
+    edit: Edit,
+    keys: &[u32],
+) -> Answer
+    ensures { λ r. ⌜ r ≡ beforeWork (mesh (now (vertices .entry)) (now (positions .entry)) (now (arcs .entry)) (now (edges .entry)) (now (faces .entry)) (now (counters .entry))) edit (now (keys .entry)) ⌝ }
+{
+    if !checks::call::given(edit, keys) {
+        return Answer::Refused(Refusal::Argument);
+    }
+    let check = checks::call::checks_of(vertices, arcs, faces, edit, keys);
+    if !answers::accepted(check) {
+        return check;
+    }
+    if !checks::call::moves_finite(vertices, positions, arcs, faces, edit) {
+        return Answer::Refused(Refusal::Argument);
+    }
+    let need = checks::call::need_of(vertices, arcs, faces, edit, keys);
+    if !checks::call::room_for(vertices, edges, faces, counters, need) {
+        return Answer::Refused(Refusal::NoRoom);
+    }
+    Answer::Done
+}

@@ -1,0 +1,6 @@
+// The transaction: one call path for every edit. It stands for plexus' `transact.rs` and `mutation/mod.rs`: work in lent room, copied over
+// the mesh only when it is accepted. Document 01's "Order" and "How a call is held to its word".
+
+pub mod call;
+pub mod decide;
+pub mod settle;
