@@ -1,0 +1,120 @@
+-- A ring whose arcs keep their rows is the same ring: as many arcs hold the face, in the same order.
+use Prim.Native.Nat.{ℕ, zero, suc, _+_, _-_, _≤_, _<_}
+use native.Mathlib.Omega.{arith}
+use native.Mathlib.Decide.{ℕ-discrete}
+use mathlib.Core.Path.{_≡_, refl, ap, sym, subst, _∙_}
+use mathlib.Core.Bool.{not}
+use mathlib.Core.List.{[]}
+use lib.ListN.{length, getD}
+use lib.Dec.{T, eqb}
+use Rattle.rules.specs.Table.{cell, sumBelow}
+use Rattle.rules.specs.Mesh.{Mesh, next, previous, faceArc}
+use Rattle.rules.proofs.Counts.{bit}
+use Rattle.rules.proofs.Sums.{same-test, sum-ext, count-sum}
+use Rattle.proved.specs.Demand.{holds, Holds, holders, onward}
+use Rattle.proved.specs.Facts.{RingFacts}
+use Rattle.proved.proofs.Ring.{row-holds, holds-row}
+use Rattle.proved.proofs.Around.{times-none, times-more}
+use Rattle.kept.specs.Frame.{RingStays}
+
+-- where the same arcs hold a face, as many do
+pub holders-same : (m n : Mesh) (f : ℕ) → length (n .arcs) ≡ length (m .arcs) → ((x : ℕ) → Holds m f x → Holds n f x) → ((x : ℕ) → Holds n f x → Holds m f x) → holders n f ≡ holders m f
+holders-same m n f e to from =
+    count-sum (holds f) (n .arcs) []
+    ∙ ap (sumBelow (λ k. bit (holds f (getD (n .arcs) k [])))) e
+    ∙ sum-ext (λ k. bit (holds f (getD (n .arcs) k []))) (λ k. bit (holds f (getD (m .arcs) k []))) (length (m .arcs))
+    (λ k l. ap bit (same-test (holds f (getD (n .arcs) k [])) (holds f (getD (m .arcs) k []))
+    (λ t. holds-row m f k (from (k + 1) (row-holds n f k t))) (λ t. holds-row n f k (to (k + 1) (row-holds m f k t)))))
+    ∙ sym (count-sum (holds f) (m .arcs) [])
+
+-- ---- what follows an arc of a ring, and what precedes it, is on the ring
+
+module _ (m : Mesh) (f : ℕ) (r : RingFacts m f) where
+  step-holds : (k : ℕ) → k < holders m f → Holds m f (next m (onward m f k))
+  step-holds k l = subst (Holds m f) (times-more (next m) k (faceArc m f)) (go (ℕ-discrete (suc k) (holders m f)))
+    where
+      go : Dec (suc k ≡ holders m f) → Holds m f (onward m f (suc k))
+      go (yes e) =
+          let q : onward m f (suc k) ≡ onward m f 0 = ap (onward m f) e ∙ r .returns ∙ sym (times-none (next m) (faceArc m f)) in
+          subst (Holds m f) (sym q) (r .each-holds 0 (omega (arith, r .at-least-3)))
+      go (no ne) = r .each-holds (suc k) (omega arith)
+
+  pub next-holds : (x : ℕ) → Holds m f x → Holds m f (next m x)
+  next-holds x h = let w = r .each-met x h in subst (λ (z : ℕ). Holds m f (next m z)) (w .2) (step-holds (w .0) (w .1))
+
+  pub previous-holds : (x : ℕ) → Holds m f x → Holds m f (previous m x)
+  previous-holds x h = go (r .each-met x h)
+    where
+      -- the arc after the one k steps on has that one before it
+      from : (k : ℕ) → k < holders m f → onward m f (suc k) ≡ x → Holds m f (previous m x)
+      from k l e =
+          subst (Holds m f) (sym (r .runs-back k l) ∙ ap (previous m) (sym (times-more (next m) k (faceArc m f)) ∙ e)) (r .each-holds k l)
+
+      at : (k : ℕ) → k < holders m f → onward m f k ≡ x → Holds m f (previous m x)
+      at zero l e =
+          let k : ℕ = holders m f - 1 in
+          let z : suc k ≡ holders m f = omega arith in
+          from k (omega arith) (ap (onward m f) z ∙ r .returns ∙ sym (times-none (next m) (faceArc m f)) ∙ e)
+      at (suc k) l e = from k (omega arith) e
+
+      go : (k : ℕ) × (k < holders m f) × (onward m f k ≡ x) → Holds m f (previous m x)
+      go w = at (w .0) (w .1) (w .2)
+
+-- ---- a ring that stays
+
+module _ (m n : Mesh) (f : ℕ) (s : RingStays m n f) (r : RingFacts m f) where
+  still-holds : (x : ℕ) → Holds m f x → Holds n f x
+  still-holds x h =
+      record { exists = subst (λ (z : ℕ). T (not (eqb z 0))) (sym (s .keeps x 0 h)) (h .exists); its-face = s .keeps x 4 h ∙ h .its-face }
+
+  as-many : holders n f ≡ holders m f
+  as-many = holders-same m n f (s .rows) still-holds (s .no-more)
+
+  onward-same : (k : ℕ) → k ≤ holders m f → onward n f k ≡ onward m f k
+  onward-same zero l = times-none (next n) (faceArc n f) ∙ s .first ∙ sym (times-none (next m) (faceArc m f))
+  onward-same (suc k) l =
+      times-more (next n) k (faceArc n f)
+      ∙ ap (next n) (onward-same k (omega arith))
+      ∙ s .keeps (onward m f k) 2 (r .each-holds k l)
+      ∙ sym (times-more (next m) k (faceArc m f))
+
+  low : (k : ℕ) → k < holders n f → k < holders m f
+  low k l = rw as-many at l
+
+  pub ring-stays : RingFacts n f
+  ring-stays =
+      record {
+        returns = ap (onward n f) as-many ∙ onward-same (holders m f) (omega arith) ∙ r .returns ∙ sym (s .first);
+        not-before = λ k a l e. r .not-before k a (low k l) (sym (onward-same k (omega (arith, low k l))) ∙ e ∙ s .first);
+        at-least-3 = rw as-many (r .at-least-3);
+        at-most-64 = rw as-many (r .at-most-64);
+        sources-differ = λ j k a b e. r .sources-differ j k (low j a) (low k b) (sym (at 0 j (low j a)) ∙ e ∙ at 0 k (low k b));
+        each-holds = λ k l. subst (Holds n f) (sym (onward-same k (omega (arith, low k l)))) (still-holds (onward m f k) (r .each-holds k (low k l)));
+        each-met = λ x h. met x (r .each-met x (s .no-more x h));
+        runs-back = λ k l. back k (low k l);
+      }
+    where
+      -- a cell of the arc k steps on
+      at : (c k : ℕ) → k < holders m f → cell (n .arcs) (onward n f k) c ≡ cell (m .arcs) (onward m f k) c
+      at c k l = ap (λ (x : ℕ). cell (n .arcs) x c) (onward-same k (omega arith)) ∙ s .keeps (onward m f k) c (r .each-holds k l)
+
+      met : (x : ℕ) → (k : ℕ) × (k < holders m f) × (onward m f k ≡ x) → (k : ℕ) × (k < holders n f) × (onward n f k ≡ x)
+      met x w = (w .0, rw as-many (w .1), onward-same (w .0) (omega (arith, w .1)) ∙ w .2)
+
+      back : (k : ℕ) → k < holders m f → previous n (next n (onward n f k)) ≡ onward n f k
+      back k l =
+          ap (previous n) (at 2 k l) ∙ s .keeps (next m (onward m f k)) 3 (step-holds m f r k l) ∙ r .runs-back k l ∙ sym (onward-same k (omega arith))
+
+-- ---- rings that stay, one edit after another
+
+pub stays-none : (m : Mesh) (f : ℕ) → RingStays m m f
+stays-none m f = record { first = refl; rows = refl; keeps = λ x c h. refl; no-more = λ x h. h }
+
+pub stays-onto : {m a n : Mesh} {f : ℕ} → RingStays m a f → RingStays a n f → RingStays m n f
+stays-onto {m} {a} {n} {f} p q =
+    record {
+      first = q .first ∙ p .first;
+      rows = q .rows ∙ p .rows;
+      keeps = λ x c h. q .keeps x c (record { exists = subst (λ (z : ℕ). T (not (eqb z 0))) (sym (p .keeps x 0 h)) (h .exists); its-face = p .keeps x 4 h ∙ h .its-face }) ∙ p .keeps x c h;
+      no-more = λ x h. p .no-more x (q .no-more x h);
+    }

@@ -1,0 +1,281 @@
+-- A face split that is accepted: its two inserts find their rows and keys, and faces other than the one named keep their record and the same
+-- ring, arc for arc.
+use Prim.Native.Nat.{ℕ, _+_, _-_, _≤_, _<_, zero-le}
+use native.Mathlib.Omega.{arith}
+use native.Mathlib.Decide.{ℕ-discrete}
+use mathlib.Core.Path.{_≡_, ap, sym, subst, _∙_}
+use mathlib.Core.Bool.{Bool, true, false, not, _||_, cond}
+use mathlib.Core.List.{List, []}
+use lib.ListN.{length, getD}
+use lib.Dec.{T, eqb, eqb→eq, ltb}
+use borrow.Author.Tests.{ne-eqb, eq-eqb}
+use Rattle.rules.specs.declared.Answer.{Answer}
+use Rattle.rules.specs.declared.Answer.the-variants.{Done, Refused}
+use Rattle.rules.specs.declared.Refusal.the-variants.{TopologyNotFound, TopologyMalformed, TopologyConflict}
+use Rattle.rules.specs.declared.Edit.the-variants.{FaceSplit}
+use Rattle.rules.specs.Table.{count, unused, firstRow}
+use Rattle.rules.specs.Mesh.{Mesh, Room, findArc, findVertex, findFace, keyLimit, vertexKind, edgeKind, faceKind, nextKey}
+use Rattle.rules.specs.Link.{ringVertices}
+use Rattle.rules.specs.Step.{Step, told, accepted}
+use Rattle.rules.specs.Insert.{arcAt, insertChecks, listsOf, putFace}
+use Rattle.rules.specs.Edit.{place, ringDistance, stretch, half, heldByOther, remove, splitChecks, splitWork}
+use Rattle.rules.specs.Sound.{sound}
+use Rattle.rules.specs.Call.{needs, checks, need, insertNeed, pairsWithout, arcByKeys, work, faceSplit}
+use Rattle.rules.proofs.Counts.{found-passes}
+use Rattle.rules.proofs.Scan.{first-le}
+use Rattle.proved.specs.Demand.{Holds}
+use Rattle.proved.specs.Facts.{SoundFacts, IsFace}
+use Rattle.proved.proofs.Rows.{true-T, in-table}
+use Rattle.proved.proofs.Ring.{ring-counts, ring-from}
+use Rattle.proved.proofs.Clauses.{facts}
+use Rattle.kept.specs.Frame.{AllButRings, ThreeCounters, Met}
+use Rattle.kept.specs.Perimeter.{Perimeter, corner, following, ListsLeave}
+use Rattle.kept.specs.Reaches.{InsertMakes, KeepsEnds, Spared, SameRing}
+use Rattle.kept.proofs.Base.{but-rings}
+use Rattle.kept.proofs.Counted.{met}
+use Rattle.kept.proofs.Find.{Between, find-back, arc-back, arc-some}
+use Rattle.kept.proofs.Spared.{spared-onto, same-ring}
+use Rattle.kept.proofs.Remove.{remove-kept, remove-spares, remove-ends, remove-rest, remove-frees}
+use Rattle.kept.proofs.Lists.{lists-leave}
+use Rattle.kept.proofs.Insert.{insert-kept}
+use Rattle.kept.proofs.Passed.{Passed, passed, places-apart}
+use Rattle.kept.proofs.Reaches.{NotOn, not-on, insert-ends, insert-joined, insert-makes, insert-spares}
+use Rattle.kept.proofs.Halves.{vertices-length, half-vertex, half-end, half-start, half-need}
+use Rattle.kept.proofs.Stretch.{stretch-ends}
+use Rattle.kept.proofs.Keeps.{keeps-none, keeps-onto, back-there}
+use Rattle.kept.proofs.Eight.{answer-zero, checked-through}
+
+-- ---- places
+
+-- a vertex that has a place in a list stands there
+pub place-is : (l : List ℕ) (x : ℕ) → (place l x ≡ 0 → ⊥) → (place l x - 1 < length l) × (getD l (place l x - 1) 0 ≡ x)
+unfolding place
+place-is l x n =
+    let some : 1 ≤ firstRow (eqb x) l = omega arith in
+    (omega (arith, first-le (eqb x) l), sym (eqb→eq x (getD l (firstRow (eqb x) l - 1) 0) (true-T (found-passes (eqb x) l 0 some))))
+
+-- ---- the two inserts
+
+-- what stands behind them
+pub record SplitRoom (m : Mesh) (a b : ℕ) : Type 0 where
+  pub edge-rows : cond (eqb (findArc m a b) 0) 1 0 ≤ count unused (m .edges)
+  pub face-rows : 1 ≤ count unused (m .faces)
+  pub vertex-keys : nextKey m vertexKind + 0 ≤ keyLimit
+  pub edge-keys : nextKey m edgeKind + cond (eqb (findArc m a b) 0) 1 0 ≤ keyLimit
+  pub face-keys : nextKey m faceKind + 2 ≤ keyLimit
+
+module _ (m : Mesh) (s : SoundFacts m) (k : ThreeCounters m) (f a b : ℕ) (u : IsFace m f) (pa : place (ringVertices m f) a ≡ 0 → ⊥) (pb : place (ringVertices m f) b ≡ 0 → ⊥) (r : SplitRoom m a b) where
+  abbrev vs : List ℕ
+  vs = ringVertices m f
+
+  abbrev i : ℕ
+  i = place vs a - 1
+
+  abbrev j : ℕ
+  j = place vs b - 1
+
+  abbrev left : List ℕ
+  left = stretch vs i j
+
+  abbrev right : List ℕ
+  right = stretch vs j i
+
+  abbrev m₁ : Mesh
+  m₁ = remove m f
+
+  s₁ : SoundFacts m₁
+  s₁ = remove-kept m s f u
+
+  b₁ : AllButRings m₁
+  b₁ = but-rings m₁ s₁
+
+  k₁ : KeepsEnds m m₁
+  k₁ = remove-ends m s f u
+
+  il : i < length vs
+  il = place-is vs a pa .0
+
+  jl : j < length vs
+  jl = place-is vs b pb .0
+
+  limit : length vs ≤ 64
+  limit = omega (arith, vertices-length m s f u, ring-counts m f (ring-from m f (s .rings f u)), s .rings f u .at-most-64)
+
+  three : (n : Mesh) → KeepsEnds m n → ThreeCounters n
+  three n w = omega (arith, w .counter-rows)
+
+  same-key : (c : ℕ) → nextKey m₁ c ≡ nextKey m c
+  same-key c = ap (λ (z : List ℕ). getD z c 0) (remove-rest m s f u .1)
+
+  -- a half that passes the checks is a perimeter
+  half-perimeter : (n : Mesh) → KeepsEnds m n → (x y : ℕ) (xl : x < length vs) (yl : y < length vs) → Passed m₁ (stretch vs x y) (stretch vs x y) → Perimeter n (stretch vs x y)
+  half-perimeter n w x y xl yl q =
+      record {
+        at-least-3 = q .at-least-3;
+        at-most-64 = omega (arith, limit, stretch-ends vs x y xl yl .not-longer);
+        vertices = λ c l. w .vertices (corner (stretch vs x y) c) (half-vertex m s f u x y xl yl c l);
+        differ = places-apart (stretch vs x y) (q .keys-differ);
+      }
+
+  module _ (ql : Passed m₁ left left) (qr : Passed m₁ right right) where
+    p₁ : Perimeter m₁ left
+    p₁ = half-perimeter m₁ k₁ i j il jl ql
+
+    -- the left half needs an edge only if there is none between a and b
+    left-need : pairsWithout m₁ left ≤ cond (eqb (findArc m a b) 0) 1 0
+    unfolding arcAt
+    left-need = rw (half-need m s f u i j il jl m₁ k₁, half-end m s f u i j il jl ∙ place-is vs b pb .1, half-start m s f u i j il jl ∙ place-is vs a pa .1) (go (ℕ-discrete (findArc m a b) 0))
+      where
+        go : Dec (findArc m a b ≡ 0) → cond (eqb (findArc m₁ b a) 0) 1 0 ≤ cond (eqb (findArc m a b) 0) 1 0
+        go (yes e) = rw (eq-eqb (findArc m a b) 0 e) (one (eqb (findArc m₁ b a) 0))
+          where
+            one : (c : Bool) → cond c 1 0 ≤ 1
+            one true = omega arith
+            one false = omega arith
+        go (no n) = rw (ne-eqb (findArc m₁ b a) 0 (back-there m m₁ (but-rings m s) k₁ a b (findArc m a b) (arc-back (m .arcs) a b n))) zero-le
+
+    need₁ : Met m₁ (insertNeed m₁ left)
+    unfolding insertNeed
+    need₁ =
+        let l = left-need in
+        record {
+          vertex-rows = zero-le;
+          edge-rows = omega (arith, ap (count unused) (remove-rest m s f u .0), r .edge-rows);
+          face-rows = omega (arith, remove-frees m s f u);
+          vertex-keys = omega (arith, same-key vertexKind, r .vertex-keys);
+          edge-keys = omega (arith, same-key edgeKind, r .edge-keys);
+          face-keys = omega (arith, same-key faceKind, r .face-keys);
+        }
+
+    abbrev m₂ : Mesh
+    m₂ = putFace m₁ left (listsOf m₁ left) 0
+
+    leave₁ : ListsLeave m₁ left (listsOf m₁ left)
+    leave₁ = lists-leave m₁ b₁ left p₁
+
+    b₂ : AllButRings m₂
+    b₂ = insert-kept m₁ b₁ left p₁ (three m₁ k₁) need₁ (listsOf m₁ left) leave₁ 0
+
+    k₁₂ : KeepsEnds m₁ m₂
+    k₁₂ = insert-ends m₁ b₁ left p₁ (three m₁ k₁) need₁ (listsOf m₁ left) leave₁ 0
+
+    k₂ : KeepsEnds m m₂
+    k₂ = keeps-onto k₁ k₁₂
+
+    p₂ : Perimeter m₂ right
+    p₂ = half-perimeter m₂ k₂ j i jl il qr
+
+    -- the right half needs none: the left one has the edge between them
+    right-need : pairsWithout m₂ right ≡ 0
+    unfolding arcAt
+    right-need = rw (half-need m s f u j i jl il m₂ k₂, half-end m s f u j i jl il ∙ place-is vs a pa .1, half-start m s f u j i jl il ∙ place-is vs b pb .1, ne-eqb (findArc m₂ a b) 0 there-is)
+      where
+        last : ℕ
+        last = length left - 1
+
+        there-is : findArc m₂ a b ≡ 0 → ⊥
+        there-is =
+            let w = insert-joined m₁ b₁ left p₁ (three m₁ k₁) need₁ (listsOf m₁ left) leave₁ 0 last (omega (arith, ql .at-least-3)) in
+            let h : Between (m₂ .arcs) b a (w .0) = record { exists = w .1 .exists; leaves = w .1 .leaves ∙ half-end m s f u i j il jl ∙ place-is vs b pb .1; arrives = w .1 .arrives ∙ half-start m s f u i j il jl ∙ place-is vs a pa .1 } in
+            back-there m₂ m₂ b₂ (keeps-none m₂) b a (w .0) h
+
+    makes : InsertMakes m₁ m₂ left
+    makes = insert-makes m₁ b₁ left p₁ (three m₁ k₁) need₁ (listsOf m₁ left) leave₁ 0
+
+    need₂ : Met m₂ (insertNeed m₂ right)
+    unfolding insertNeed
+    need₂ =
+        let none = right-need in
+        record {
+          vertex-rows = zero-le;
+          edge-rows = omega arith;
+          face-rows = omega (arith, makes .faces-made, remove-frees m s f u, r .face-rows);
+          vertex-keys = omega (arith, makes .vertex-keys, same-key vertexKind, r .vertex-keys);
+          edge-keys = omega (arith, makes .edge-keys, same-key edgeKind, left-need, r .edge-keys);
+          face-keys = omega (arith, makes .face-keys, same-key faceKind, r .face-keys);
+        }
+
+    -- the lists of the right half, taken before the left one was in
+    leave₂ : ListsLeave m₂ right (listsOf m₁ right)
+    leave₂ c l y h =
+        let w = lists-leave m₁ b₁ right (half-perimeter m₁ k₁ j i jl il qr) c l y h in
+        (k₁₂ .arcs y (w .0), k₁₂ .sources y (w .0) ∙ w .1)
+
+    -- ---- other faces
+
+    module _ (g : ℕ) (v : IsFace m g) (ne : g ≡ f → ⊥) where
+      none : g ≡ 0 → ⊥
+      none z = let l = in-table (m .faces) g v in omega arith
+
+      first : Spared m m₁ g
+      first = remove-spares m s f u g ne v
+
+      face-in : (n : Mesh) → Spared m n g → IsFace n g
+      face-in n w = subst (λ (z : ℕ). T (not (eqb z 0))) (sym (w .record-stays 0)) v
+
+      second : Spared m₁ m₂ g
+      second = insert-spares m₁ b₁ left p₁ (three m₁ k₁) need₁ (listsOf m₁ left) leave₁ 0 g (face-in m₁ first) (not-on m₁ left (ql .no-conflict) g none)
+
+      -- the right half's arcs do not hold it either
+      off-right : NotOn m₂ right g
+      unfolding arcAt
+      off-right c l h =
+          let x = arcAt m₂ right c in
+          let a′ = corner right c in
+          let b′ = following right c in
+          let w = second .no-more x h in
+          let found = arc-back (m₂ .arcs) a′ b′ (λ e. let t = in-table (m₂ .arcs) x (h .exists) in omega arith) in
+          let here : Between (m₁ .arcs) a′ b′ x = record { exists = w .exists; leaves = sym (k₁₂ .sources x (w .exists)) ∙ found .leaves; arrives = sym (k₁₂ .dests x (w .exists)) ∙ found .arrives } in
+          let some = arc-some (m₁ .arcs) a′ b′ (omega (arith, b₁ .sizes .arc-rows, b₁ .sizes .edge-rows)) x here in
+          let was = arc-back (m₁ .arcs) a′ b′ some in
+          let e : arcAt m₁ right c ≡ x = b₁ .pairs-differ (arcAt m₁ right c) x (was .exists) (w .exists) (was .leaves ∙ sym (here .leaves)) (was .arrives ∙ sym (here .arrives)) in
+          not-on m₁ right (qr .no-conflict) g none c l (subst (Holds m₁ g) (sym e) w)
+
+      pub split-spares : Spared m (putFace m₂ right (listsOf m₁ right) 0) g
+      split-spares =
+          spared-onto first (spared-onto second (insert-spares m₂ b₂ right p₂ (three m₂ k₂) need₂ (listsOf m₁ right) leave₂ 0 g (face-in m₂ (spared-onto first second)) off-right))
+
+-- ---- the call
+
+-- the checks of a split that pass
+split-passed : (m : Mesh) (f a b : ℕ) → T (accepted (splitChecks m f a b)) → (f ≡ 0 → ⊥) × (place (ringVertices m f) a ≡ 0 → ⊥) × (place (ringVertices m f) b ≡ 0 → ⊥)
+unfolding splitChecks accepted
+split-passed m f a b h = go (ℕ-discrete f 0) (ℕ-discrete (place (ringVertices m f) a) 0) (ℕ-discrete (place (ringVertices m f) b) 0) h
+  where
+    vs : List ℕ
+    vs = ringVertices m f
+
+    rest : Answer
+    rest =
+        cond (ltb (ringDistance (length vs) (place vs a - 1) (place vs b - 1)) 2) (Refused TopologyMalformed) (cond (heldByOther m f (half m f a b) || heldByOther m f (half m f b a)) (Refused TopologyConflict) Done)
+
+    go : Dec (f ≡ 0) → Dec (place vs a ≡ 0) → Dec (place vs b ≡ 0) → T (accepted (cond (eqb f 0) (Refused TopologyNotFound) (cond (eqb (place vs a) 0 || eqb (place vs b) 0) (Refused TopologyNotFound) rest))) → (f ≡ 0 → ⊥) × (place vs a ≡ 0 → ⊥) × (place vs b ≡ 0 → ⊥)
+    go (yes e) x y q = absurd (rw (eq-eqb f 0 e) at q)
+    go (no n) (yes e) y q = absurd (rw (ne-eqb f 0 n, eq-eqb (place vs a) 0 e) at q)
+    go (no n) (no x) (yes e) q = absurd (rw (ne-eqb f 0 n, ne-eqb (place vs a) 0 x, eq-eqb (place vs b) 0 e) at q)
+    go (no n) (no x) (no y) q = (n, x, y)
+
+-- after a split that is answered with 0, every face but the one named has its record and the same ring, arc for arc
+pub split-keeps-rings : (m : Mesh) (one two : Room) (f a b : ℕ) → ThreeCounters m → told (faceSplit m one two f a b .answer) .number ≡ 0 → (g : ℕ) → IsFace m g → (g ≡ findFace m f → ⊥) → SameRing m (faceSplit m one two f a b .mesh) g
+unfolding faceSplit checks work need arcByKeys splitWork half
+split-keeps-rings m one two f a b k h g v ne =
+    let w = answer-zero m (FaceSplit f a b) [] one two h in
+    let s = facts m (w .behind .was-sound) in
+    let face = findFace m f in
+    let from = findVertex m a in
+    let to = findVertex m b in
+    let vs = ringVertices m face in
+    let left = stretch vs (place vs from - 1) (place vs to - 1) in
+    let right = stretch vs (place vs to - 1) (place vs from - 1) in
+    let m₁ = remove m face in
+    let m₃ = putFace (putFace m₁ left (listsOf m₁ left) 0) right (listsOf m₁ right) 0 in
+    let c = split-passed m face from to (w .behind .checks-passed) in
+    let u = find-back (m .faces) f (c .0) .0 in
+    let e = met m (needs 0 (cond (eqb (findArc m from to) 0) 1 0) 1 2) (w .behind .need-met) in
+    let room : SplitRoom m from to = record { edge-rows = e .edge-rows; face-rows = e .face-rows; vertex-keys = e .vertex-keys; edge-keys = e .edge-keys; face-keys = e .face-keys } in
+    let first = checked-through m₁ (insertChecks m₁ left left) _ (w .work-accepted) in
+    let second = checked-through m₁ (insertChecks m₁ right right) _ (subst (λ (t : Step). T (accepted (t .answer))) (first .1) (w .work-accepted)) in
+    let is : faceSplit m one two f a b .mesh ≡ m₃ = w .is ∙ ap (λ (t : Step). t .tables) (first .1 ∙ second .1) in
+    let spared = split-spares m s k face from to u (c .1) (c .2) room (passed m₁ left left (first .0)) (passed m₁ right right (second .0)) g v ne in
+    let sr = facts m₃ (subst (λ (n : Mesh). T (sound n)) is (w .now-sound)) in
+    subst (λ (n : Mesh). SameRing m n g) (sym is) (same-ring spared (sr .rings g (subst (λ (z : ℕ). T (not (eqb z 0))) (sym (spared .record-stays 0)) v)))

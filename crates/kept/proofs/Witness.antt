@@ -1,0 +1,49 @@
+-- Two computed examples. A mesh lent without its counters, which the code's types rule out, is answered with 8 by a vertex insert: so the
+-- theorems on 8 take it that the counters are there. And the theorem on fresh vertices speaks of calls that are accepted: three vertices, and
+-- a face on them.
+use Prim.Native.Nat.{ℕ}
+use mathlib.Core.Path.{_≡_, refl, subst}
+use mathlib.Core.List.{List, [], _∷_}
+use lib.ListN.{replicate}
+use lib.Dec.{T}
+use Rattle.rules.specs.declared.Edit.the-variants.{VertexInsert}
+use Rattle.rules.specs.Table.{Table, there, cell, put, putRow, firstRow, freeRow, count, every, someBelow, allBelow, sumBelow, upTo, has, distinct}
+use Rattle.rules.specs.Mesh.{Mesh, mesh, oppositeOf, findKey, arcBetween, oneUp}
+use Rattle.rules.specs.Point.{position, zeroFloat, exponentField, finiteNumber, zeroNumber, positionAt, finitePosition, finiteRow, zeroPositionRow}
+use Rattle.rules.specs.Link.{putVertex, newVertex, connect, setFace, walk, walkEnded, ring, ringEnded, arcCount, turnIn, outgoing, newArc, newEdge, getOrInsertEdge}
+use Rattle.rules.specs.Step.{numberOf, told, accepted, andThen, answering, checked}
+use Rattle.rules.specs.Insert.{arcAt, malformed, hasFace, leadsBack, conflict, insertChecks, edgesIn, newFace, interior, facelessIn, exteriorAt, exterior, putFace, listsOf, insertWork, insertFace}
+use Rattle.rules.specs.Sound.{withinLimits, keysOf, keysDiffer, keysBelow, hasBothArcs, bothArcs, endsDiffer, endsExist, pairsDiffer, edgeJoins, leadsOut, nextLeaves, previousArrives, faceExists, namesHolder, closed, comesBack, threeToLimit, sourcesDiffer, ringHolds, holdersOnRing, runsBack, ringSound, ringsSound, positionsZero, restZero, allFinite, sound}
+use Rattle.rules.specs.Call.{roomEnough, zeroed, ready, given, byKeys, checks, movesFinite, pairsWithout, insertNeed, need, rowsFor, keysFor, roomFor, work, lastStep, worked, decided, kept, called, vertexInsert, faceInsert}
+use Rattle.rules.specs.Script.{emptyRoom, emptyMesh}
+use lib.Ieee.{span, climb, size, odd, units, round, ofFields, ofBits, toBits}
+use Rattle.proved.proofs.Reached.{none-there}
+use Rattle.kept.specs.Reaches.{NoArcAt}
+use Rattle.proved.specs.Demand.{Made, made, afterCall, afterCalls, reached}
+
+-- an empty mesh of one vertex row, without its counters
+abbrev uncounted : Mesh
+uncounted = mesh ((0 ∷ 0 ∷ []) ∷ []) ((zeroFloat ∷ zeroFloat ∷ zeroFloat ∷ []) ∷ []) [] [] [] []
+
+pub without-counters-8 : told (vertexInsert uncounted (emptyRoom 1 0 0) (emptyRoom 1 0 0) (position zeroFloat zeroFloat zeroFloat) .answer) .number ≡ 8
+unfolding cell put putRow firstRow freeRow count every someBelow allBelow sumBelow upTo has distinct findKey arcBetween oneUp exponentField finiteNumber zeroNumber positionAt finitePosition finiteRow zeroPositionRow putVertex newVertex numberOf told accepted withinLimits keysOf keysDiffer keysBelow hasBothArcs bothArcs endsDiffer endsExist pairsDiffer edgeJoins leadsOut nextLeaves previousArrives faceExists ringsSound positionsZero restZero allFinite sound roomEnough zeroed ready given checks movesFinite need rowsFor keysFor roomFor work lastStep worked decided kept called vertexInsert emptyRoom span climb size odd units round ofFields ofBits toBits
+without-counters-8 = refl
+
+-- three vertices, and a face on them
+abbrev three : List Made
+three = let corner = made (VertexInsert (position zeroFloat zeroFloat zeroFloat)) [] (emptyRoom 3 3 1) (emptyRoom 3 3 1) in corner ∷ corner ∷ corner ∷ []
+
+pub fresh-accepted : told (faceInsert (reached 3 3 1 three) (emptyRoom 3 3 1) (emptyRoom 3 3 1) (0 ∷ 1 ∷ 2 ∷ []) 7 .answer) .number ≡ 0
+unfolding cell put putRow firstRow freeRow count every someBelow allBelow sumBelow upTo has distinct oppositeOf findKey arcBetween oneUp exponentField finiteNumber zeroNumber positionAt finitePosition finiteRow zeroPositionRow putVertex newVertex connect setFace walk walkEnded ring ringEnded arcCount turnIn outgoing newArc newEdge getOrInsertEdge numberOf told accepted andThen answering checked arcAt malformed hasFace leadsBack conflict insertChecks edgesIn newFace interior facelessIn exteriorAt exterior putFace listsOf insertWork insertFace withinLimits keysOf keysDiffer keysBelow hasBothArcs bothArcs endsDiffer endsExist pairsDiffer edgeJoins leadsOut nextLeaves previousArrives faceExists namesHolder closed comesBack threeToLimit sourcesDiffer ringHolds holdersOnRing runsBack ringSound ringsSound positionsZero restZero allFinite sound roomEnough zeroed ready given byKeys checks movesFinite pairsWithout insertNeed need rowsFor keysFor roomFor work lastStep worked decided kept called faceInsert emptyRoom emptyMesh span climb size odd units round ofFields ofBits toBits afterCall afterCalls reached
+fresh-accepted = refl
+
+no-arcs : reached 3 3 1 three .arcs ≡ replicate 6 (0 ∷ 0 ∷ 0 ∷ 0 ∷ 0 ∷ 0 ∷ [])
+unfolding cell put putRow firstRow freeRow count every someBelow allBelow sumBelow upTo has distinct oppositeOf findKey arcBetween oneUp exponentField finiteNumber zeroNumber positionAt finitePosition finiteRow zeroPositionRow putVertex newVertex connect setFace walk walkEnded ring ringEnded arcCount turnIn outgoing newArc newEdge getOrInsertEdge numberOf told accepted andThen answering checked arcAt malformed hasFace leadsBack conflict insertChecks edgesIn newFace interior facelessIn exteriorAt exterior putFace listsOf insertWork insertFace withinLimits keysOf keysDiffer keysBelow hasBothArcs bothArcs endsDiffer endsExist pairsDiffer edgeJoins leadsOut nextLeaves previousArrives faceExists namesHolder closed comesBack threeToLimit sourcesDiffer ringHolds holdersOnRing runsBack ringSound ringsSound positionsZero restZero allFinite sound roomEnough zeroed ready given byKeys checks movesFinite pairsWithout insertNeed need rowsFor keysFor roomFor work lastStep worked decided kept called faceInsert emptyRoom emptyMesh span climb size odd units round ofFields ofBits toBits afterCall afterCalls reached
+no-arcs = refl
+
+pub fresh-there : NoArcAt (reached 3 3 1 three) (0 ∷ 1 ∷ 2 ∷ [])
+unfolding every
+fresh-there = record { none-leaves = λ x k u h e. none x u; none-arrives = λ x k u h e. none x u }
+  where
+    none : (x : ℕ) → T (there (reached 3 3 1 three .arcs) x) → ⊥
+    none x u = none-there 6 (0 ∷ 0 ∷ 0 ∷ 0 ∷ 0 ∷ 0 ∷ []) tt x (subst (λ (t : Table). T (there t x)) no-arcs u)

@@ -1,0 +1,4 @@
+pub mod Frame
+pub mod Said
+pub mod Perimeter
+pub mod Reaches

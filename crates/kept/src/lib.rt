@@ -1,0 +1,1 @@
+// Nothing to run: this crate holds theorems over the definitions in `rules`.
