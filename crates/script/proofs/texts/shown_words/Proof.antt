@@ -1,0 +1,27 @@
+-- `script::texts::shown_words` meets its contract. By whether the edit shows keys. Assumes nothing.
+use mathlib.Core.Path.{sym, _∙_}
+use Rattle.script.specs.Texts.{shownWords}
+use borrow.Author.Needs.{needs}
+use Rattle.script.proofs.texts.shown_words.Statement.{statement}
+use Rattle.script.proofs.texts.shown_words.Tie as tie
+
+words-of-requires : tie.Need-words-of-requires
+words-of-requires c κs = search needs
+
+shows-keys-requires : tie.Need-shows-keys-requires
+shows-keys-requires c κs = search needs
+
+returns : tie.Need-returns
+unfolding shownWords
+returns c = rw (sym (c .before .shows-keys .ensures) ∙ c .if1 .taken) (c .before .before .words-of .ensures)
+
+bare-requires : tie.Need-bare-requires
+bare-requires c κs = search needs
+
+returns-2 : tie.Need-returns-2
+unfolding shownWords
+returns-2 c = rw (sym (c .before .before .shows-keys .ensures) ∙ c .before .if1 .left, ← c .before .before .before .words-of .ensures) (c .bare .ensures)
+
+pub shown-words-spec : {M : Type 1} → statement M
+shown-words-spec =
+    tie.close (tie.spec words-of-requires shows-keys-requires returns bare-requires returns-2)
