@@ -75,7 +75,11 @@ loneQuad = "v 0 0 0\nv 0 0 0\nv 0 0 0\nv 0 0 0\nf 5 0 1 2 3\n"
 unfoldable pub splitQuad : String
 splitQuad = "v 0 0 0\nv 0 0 0\nv 0 0 0\nv 0 0 0\nf 5 0 1 2 3\ns 0 0 2\n"
 
--- each starred corner, in its order
+-- a face whose half borders another face at a vertex, split: the right half is checked, and its lists are taken, before the left is in
+unfoldable pub splitBeside : String
+splitBeside = "v 0 0 0\nv 0 0 0\nv 0 0 0\nv 0 0 0\nv 0 0 0\nv 0 0 0\nf 0 3 0 4\nf 0 1 5 0 2\ns 1 1 0\n"
+
+-- each starred corner, in its order; and last what they leave open, the right half of a split checked before the left is in
 unfoldable pub starred : List (List ℕ)
 starred =
     let four = afterQ 4 in
@@ -96,11 +100,8 @@ starred =
     ∷ faceOf halves 2
     ∷ nextOf all 2 1
     ∷ previousOf all 2 1
+    ∷ nextOf (after splitBeside) 2 0
     ∷ []
-
--- a face whose half borders another face at a vertex, split: the right half is checked, and its lists are taken, before the left is in
-unfoldable pub splitBeside : String
-splitBeside = "v 0 0 0\nv 0 0 0\nv 0 0 0\nv 0 0 0\nv 0 0 0\nv 0 0 0\nf 0 3 0 4\nf 0 1 5 0 2\ns 1 1 0\n"
 
 -- a triangle removed; a triangle that fills its tables of 3 vertices, 3 edges and 1 face; a mesh that an arc extrude would break
 unfoldable pub removed : String
@@ -125,8 +126,7 @@ unfoldable pub further : List (List ℕ)
 further =
     let six = afterQ 6 in
     let filled = full in
-    nextOf (after splitBeside) 2 0
-    ∷ faceOf (after poked) 1
+    faceOf (after poked) 1
     ∷ ask (after removed) "f 9 0 1 2"
     ∷ ask filled "f 9 0 1 2"
     ∷ ask filled "f 9 0 2 1"
