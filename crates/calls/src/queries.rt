@@ -1,0 +1,57 @@
+// The queries as a program in C or Rust calls them: arity of a face, the soundness check, the finished check. They change nothing.
+
+use rules::ArcRow;
+use rules::EdgeRow;
+use rules::FaceRow;
+use rules::PositionRow;
+use rules::Reply;
+use rules::VertexRow;
+use tables::answers;
+ghost use mathlib.Core.Path.{_≡_};
+ghost use Rattle.rules.specs.Mesh.{mesh};
+ghost use Rattle.rules.specs.Step.{told};
+ghost use Rattle.rules.specs.Call.{checkSound, checkFinished, faceArity};
+
+#[no_mangle]
+pub extern "C" fn ul_check_sound(
+    vertices: &[VertexRow],
+    positions: &[PositionRow],
+    arcs: &[ArcRow],
+    edges: &[EdgeRow],
+    faces: &[FaceRow],
+    counters: &[u32; 3],
+) -> Reply
+    ensures { λ r. ⌜ r ≡ told (checkSound (mesh (now (vertices .entry)) (now (positions .entry)) (now (arcs .entry)) (now (edges .entry)) (now (faces .entry)) (now (counters .entry)))) ⌝ }
+{
+    answers::told(sound::queries::check_sound(vertices, positions, arcs, edges, faces, counters))
+}
+
+#[no_mangle]
+pub extern "C" fn ul_check_finished(vertices: &[VertexRow]) -> Reply
+    ensures { λ r. ⌜ r ≡ told (checkFinished (now (vertices .entry))) ⌝ }
+{
+    answers::told(sound::queries::check_finished(vertices))
+}
+
+#[no_mangle]
+pub extern "C" fn ul_face_arity(
+    vertices: &[VertexRow],
+    positions: &[PositionRow],
+    arcs: &[ArcRow],
+    edges: &[EdgeRow],
+    faces: &[FaceRow],
+    counters: &[u32; 3],
+    face: u32,
+) -> Reply
+    ensures { λ r. ⌜ r ≡ told (faceArity (mesh (now (vertices .entry)) (now (positions .entry)) (now (arcs .entry)) (now (edges .entry)) (now (faces .entry)) (now (counters .entry))) face) ⌝ }
+{
+    answers::told(sound::queries::face_arity(
+        vertices,
+        positions,
+        arcs,
+        edges,
+        faces,
+        counters,
+        face,
+    ))
+}
