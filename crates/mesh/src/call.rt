@@ -2,8 +2,8 @@
 // moved coordinates; 7; the Rust's refusals in mid-edit; 8", and "Working room ends all zero, accepted or not; answer 1 alone leaves it
 // untouched."
 
-use crate::decide;
-use crate::settle;
+use order::decide;
+use order::settle;
 use rules::Answer;
 use rules::ArcRow;
 use rules::Call;
@@ -19,7 +19,7 @@ ghost use mathlib.Core.Path.{_≡_};
 ghost use lib.ListN.{length};
 ghost use Rattle.rules.specs.Mesh.{mesh, room};
 ghost use Rattle.rules.specs.Call.{decided, called, outcome};
-ghost use Rattle.mesh.specs.Transaction.{left, over, SameSize, Fits};
+ghost use Rattle.order.specs.Transaction.{left, over, SameSize, Fits};
 
 // The edit in room that is as long as the mesh, and what is settled.
 fn perform(

@@ -2,5 +2,3 @@
 // the mesh only when it is accepted. Document 01's "Order" and "How a call is held to its word".
 
 pub mod call;
-pub mod decide;
-pub mod settle;

@@ -6,9 +6,9 @@ use borrow.Author.Needs.{needs}
 use borrow.Author.Tests.{not-true, not-false}
 use Rattle.rules.specs.Mesh.{Mesh, mesh, Room, room}
 use Rattle.rules.specs.Call.{zeroed}
-use Rattle.mesh.specs.Transaction.{left, over, Fits}
+use Rattle.order.specs.Transaction.{left, over, Fits}
 use Rattle.rules.specs.Call.{decided, ready}
-use Rattle.mesh.proofs.Settling.{SameRoom, called-not, called-done, ready-fits}
+use Rattle.mesh.proofs.Calling.{SameRoom, called-not, called-done, ready-fits}
 use Rattle.mesh.proofs.call.change.Statement.{statement}
 use Rattle.mesh.proofs.call.change.Tie as tie
 

@@ -9,9 +9,10 @@ use Rattle.rules.specs.declared.Answer.{Answer}
 use Rattle.rules.specs.Mesh.{Mesh, mesh, Room, room}
 use Rattle.rules.specs.Step.{Step, step, accepted}
 use Rattle.tables.specs.Sets.{setOver}
-use Rattle.mesh.specs.Transaction.{left, over, SameSize, beforeWork}
+use Rattle.order.specs.Transaction.{left, over, SameSize, beforeWork}
 use Rattle.rules.specs.Call.{work, worked, decided}
-use Rattle.mesh.proofs.Settling.{meshOf, roomOf, size-back, copied, performed, not-performed, few-keys}
+use Rattle.mesh.proofs.Calling.{performed, not-performed, few-keys}
+use Rattle.order.proofs.Settling.{meshOf, roomOf, size-back, copied}
 use Rattle.mesh.proofs.call.perform.Statement.{statement}
 use Rattle.mesh.proofs.call.perform.Tie as tie
 

@@ -2,7 +2,7 @@ use Prim.Native.Nat.{ℕ, _≤_}
 use mathlib.Core.Path.{_≡_, sym, _∙_}
 use lib.ListN.{length}
 use borrow.Author.Needs.{needs}
-use Rattle.mesh.proofs.Settling.{part-size, part-back}
+use Rattle.mesh.proofs.Calling.{part-size, part-back}
 use Rattle.mesh.proofs.call.perform_in_parts.Statement.{statement}
 use Rattle.mesh.proofs.call.perform_in_parts.Tie as tie
 

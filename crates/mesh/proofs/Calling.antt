@@ -1,4 +1,4 @@
--- What the transaction's pieces come to, over plain values: a set copied over another of its size, and a step over the mesh.
+-- What the transaction comes to, over plain values: what is decided and then worked, a part of a room, and the whole call.
 use mathlib.Core.Path.{_≡_, refl, ap, sym, _∙_}
 use mathlib.Core.Bool.{Bool, true, false, not, _&&_, cond, false≢true}
 use lib.Dec.{leb}
@@ -23,59 +23,14 @@ use Rattle.tables.specs.Sets.{over, setOver}
 use Rattle.tables.proofs.Lists.{over-same}
 use Rattle.rules.specs.declared.Edit.the-variants.{FaceInsert}
 use Rattle.checks.proofs.Pairs.{given-few}
-use Rattle.mesh.proofs.Deciding.{not-given}
-use Rattle.mesh.specs.Transaction as T
-use Rattle.mesh.specs.Transaction.{Left, left, SameSize, Fits, beforeWork}
-
--- a set of tables with counters
-abbrev pub meshOf : Room → List ℕ → Mesh
-meshOf r k = mesh (r .vertices) (r .positions) (r .arcs) (r .edges) (r .faces) k
-
-abbrev pub roomOf : Mesh → Room
-roomOf m = room (m .vertices) (m .positions) (m .arcs) (m .edges) (m .faces)
-
-pub size-back : (m n : Mesh) → SameSize m n → SameSize n m
-size-back m n z = record { vertices = sym (z .vertices); positions = sym (z .positions); arcs = sym (z .arcs); edges = sym (z .edges); faces = sym (z .faces) }
-
--- over a set of its sizes a set is copied whole
-pub copied : (s d : Mesh) (r : Room) → SameSize d s → r ≡ setOver (roomOf s) (roomOf d) → r ≡ roomOf s
-unfolding setOver
-copied s d r z e =
-    e ∙ (λ i. room (over-same (s .vertices) (d .vertices) (sym (z .vertices)) i) (over-same (s .positions) (d .positions) (sym (z .positions)) i) (over-same (s .arcs) (d .arcs) (sym (z .arcs)) i) (over-same (s .edges) (d .edges) (sym (z .edges)) i) (over-same (s .faces) (d .faces) (sym (z .faces)) i))
-
--- a refused step leaves the mesh, an accepted one its own tables
-pub over-refused : (m : Mesh) (s : Step) → accepted (s .answer) ≡ false → left (s .answer) m ≡ T.over m s
-unfolding T.over kept
-over-refused m s e = rw e
-
-pub over-accepted : (m : Mesh) (s : Step) → accepted (s .answer) ≡ true → left (s .answer) (s .tables) ≡ T.over m s
-unfolding T.over kept
-over-accepted m s e = rw e
-
--- ---- 8, and the last step
-
-pub worked-refused : (s : Step) → accepted (s .answer) ≡ false → worked s ≡ s
-unfolding worked
-worked-refused s e = rw e
-
-pub worked-broken : (s : Step) → accepted (s .answer) ≡ true → sound (s .tables) ≡ false → worked s ≡ stops (s .tables) WouldBreak
-unfolding worked
-worked-broken s e h = rw (e, h)
-
-pub worked-done : (s : Step) → accepted (s .answer) ≡ true → sound (s .tables) ≡ true → worked s ≡ s
-unfolding worked lastStep
-worked-done s e h = rw (e, h)
+use Rattle.order.proofs.Deciding.{not-given}
+use Rattle.order.proofs.Settling.{over-refused}
+use Rattle.order.specs.Transaction as T
+use Rattle.order.specs.Transaction.{Left, left, SameSize, Fits, beforeWork}
 
 argument-refused : accepted (Refused Argument) ≡ false
 unfolding accepted
 argument-refused = refl
-
-break-refused : accepted (Refused WouldBreak) ≡ false
-unfolding accepted
-break-refused = refl
-
-pub left-broken : (m : Mesh) (s : Step) → accepted (s .answer) ≡ true → sound (s .tables) ≡ false → left (Refused WouldBreak) m ≡ T.over m (worked s)
-left-broken m s e h = over-refused m (stops (s .tables) WouldBreak) break-refused ∙ ap (T.over m) (sym (worked-broken s e h))
 
 -- ---- the order
 

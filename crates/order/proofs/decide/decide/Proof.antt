@@ -5,10 +5,10 @@ use borrow.Author.Tests.{not-true, not-false}
 use Rattle.rules.specs.Mesh.{Mesh, mesh, Room, room}
 use Rattle.rules.specs.Call.{needs as needsOf}
 use Rattle.checks.proofs.Pairs.{given-few}
-use Rattle.mesh.proofs.Deciding.{not-given, checks-refuse, not-moves, not-room, all-passed}
+use Rattle.order.proofs.Deciding.{not-given, checks-refuse, not-moves, not-room, all-passed}
 use borrow.Author.Needs.{needs}
-use Rattle.mesh.proofs.decide.decide.Statement.{statement}
-use Rattle.mesh.proofs.decide.decide.Tie as tie
+use Rattle.order.proofs.decide.decide.Statement.{statement}
+use Rattle.order.proofs.decide.decide.Tie as tie
 
 given-requires : tie.Need-given-requires
 given-requires c κs = search needs

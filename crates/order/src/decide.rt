@@ -14,7 +14,7 @@ use tables::sets;
 ghost use mathlib.Core.Path.{_≡_};
 ghost use Rattle.rules.specs.Mesh.{mesh, room};
 ghost use Rattle.rules.specs.Call.{ready};
-ghost use Rattle.mesh.specs.Transaction.{beforeWork};
+ghost use Rattle.order.specs.Transaction.{beforeWork};
 
 // Sizes, limits and soundness of the mesh, and rooms that are not too small.
 pub fn is_ready(

@@ -14,7 +14,7 @@ ghost use mathlib.Core.Path.{_≡_};
 ghost use Rattle.rules.specs.Mesh.{mesh};
 ghost use Rattle.rules.specs.Step.{step};
 ghost use Rattle.rules.specs.Call.{worked};
-ghost use Rattle.mesh.specs.Transaction.{left, over, SameSize};
+ghost use Rattle.order.specs.Transaction.{left, over, SameSize};
 
 pub fn settle(
     vertices: &mut [VertexRow],

@@ -3,10 +3,10 @@ use mathlib.Core.Path.{_≡_, refl, ap, sym, _∙_}
 use mathlib.Core.List.{List}
 use borrow.Author.Tests.{not-true, not-false}
 use Rattle.rules.specs.Mesh.{Mesh, mesh, Room, room}
-use Rattle.mesh.proofs.Deciding.{one-short, two-short, both-enough}
+use Rattle.order.proofs.Deciding.{one-short, two-short, both-enough}
 use borrow.Author.Needs.{needs}
-use Rattle.mesh.proofs.decide.is_ready.Statement.{statement}
-use Rattle.mesh.proofs.decide.is_ready.Tie as tie
+use Rattle.order.proofs.decide.is_ready.Statement.{statement}
+use Rattle.order.proofs.decide.is_ready.Tie as tie
 
 room-enough-requires : tie.Need-room-enough-requires
 room-enough-requires c κs = search needs

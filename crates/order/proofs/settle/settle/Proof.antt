@@ -5,11 +5,11 @@ use borrow.Author.Tests.{not-true, not-false}
 use Rattle.rules.specs.Mesh.{Mesh, mesh, Room, room}
 use lib.ListN.{length}
 use Rattle.rules.specs.Step.{Step, step}
-use Rattle.mesh.specs.Transaction.{left, over, SameSize}
-use Rattle.mesh.proofs.Settling.{meshOf, roomOf, copied, over-refused, over-accepted, worked-refused, worked-done, left-broken}
+use Rattle.order.specs.Transaction.{left, over, SameSize}
+use Rattle.order.proofs.Settling.{meshOf, roomOf, copied, over-refused, over-accepted, worked-refused, worked-done, left-broken}
 use borrow.Author.Needs.{needs}
-use Rattle.mesh.proofs.settle.settle.Statement.{statement}
-use Rattle.mesh.proofs.settle.settle.Tie as tie
+use Rattle.order.proofs.settle.settle.Statement.{statement}
+use Rattle.order.proofs.settle.settle.Tie as tie
 
 accepted-requires : tie.Need-accepted-requires
 accepted-requires c κs = search needs

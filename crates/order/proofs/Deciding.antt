@@ -11,7 +11,7 @@ use Rattle.rules.specs.Mesh.{Mesh, Room}
 use Rattle.rules.specs.Step.{accepted}
 use Rattle.rules.specs.Sound.{sound}
 use Rattle.rules.specs.Call.{Need, given, checks, movesFinite, roomFor, need, ready, roomEnough}
-use Rattle.mesh.specs.Transaction.{beforeWork}
+use Rattle.order.specs.Transaction.{beforeWork}
 
 module _ (m : Mesh) (e : Edit) (keys : List ℕ) where
   pub not-given : given e keys ≡ false → Refused Argument ≡ beforeWork m e keys

@@ -1,0 +1,6 @@
+// The order of answers, in two pieces that the transaction joins: what is decided before the first change (1, 2, the Rust's checks, 2 for
+// moved coordinates, 7), and what is settled after the work (a refusal in mid-edit, 8, or the result copied over the mesh).
+// Document 01's "Order".
+
+pub mod decide;
+pub mod settle;
