@@ -62,6 +62,10 @@ module _ (m : Mesh) (s : AllButRings m) (a b : ℕ) (r : RoomForEdge m a b) wher
   second-took : Took arcs₁ arcs₂ backLink (arcRow b a newLink)
   second-took = took arcs₁ (omega (arith, first-took .rows, s .sizes .arc-rows, s .sizes .edge-rows)) (omega (arith, first-took .fewer, s .two-free, r .a-row)) (arcRow b a newLink) (differ-T b 0 some-b)
 
+  pub back-finds : 1 ≤ freeRow (newArc m a b newLink .arcs)
+  unfolding newArc
+  back-finds = second-took .some
+
   two-links : forthLink ≡ backLink → ⊥
   two-links = old-differs second-took forthLink (new-there first-took (differ-T a 0 some-a))
 

@@ -151,9 +151,9 @@ module _ (m : Mesh) (per : List ℕ) (p : Perimeter m per) (r : RoomForEdges m p
             absurd (arc-some (a .arcs) (corner per i) (following per i) small x (record { exists = grown-arc (w .grown) x (b .exists); leaves = w .grown .arcs-stay x 0 (b .exists) ∙ b .leaves; arrives = w .grown .arcs-stay x 1 (b .exists) ∙ b .arrives }) e)
 
     -- the need is enough: an edge that is to be made finds its row and its key
-    pub need-suffices : findArc a (corner per i) (following per i) ≡ 0 → RoomForEdge a (corner per i) (following per i)
+    pub edge-finds-room : findArc a (corner per i) (following per i) ≡ 0 → RoomForEdge a (corner per i) (following per i)
     unfolding pairsWithout
-    need-suffices e =
+    edge-finds-room e =
         let one = had-none e in
         let up = sum-up (needAt m per) (suc i) (length per) l in
         let more = sum-next (needAt m per) i in
@@ -192,7 +192,7 @@ module _ (m : Mesh) (per : List ℕ) (p : Perimeter m per) (r : RoomForEdges m p
     -- where it has none
     edge-made : findArc a (corner per i) (following per i) ≡ 0 → EdgesUpTo m per (suc i) (newEdge a (corner per i) (following per i))
     edge-made e =
-        let o = need-suffices e in
+        let o = edge-finds-room e in
         let d = made-edge a (w .base) (corner per i) (following per i) o in
         let more = sum-next (needAt m per) i in
         let one = had-none e in
@@ -250,7 +250,7 @@ module _ (m : Mesh) (per : List ℕ) (p : Perimeter m per) (r : RoomForEdges m p
 
   -- each pair that has no arc when its turn comes finds the row and the key for one
   pub each-edge-finds-room : AllButRings m → (i : ℕ) → i < length per → findArc (edgesUpTo per i m) (corner per i) (following per i) ≡ 0 → RoomForEdge (edgesUpTo per i m) (corner per i) (following per i)
-  each-edge-finds-room s i l e = need-suffices i l (edgesUpTo per i m) (edges-up-to s i (omega arith)) e
+  each-edge-finds-room s i l e = edge-finds-room i l (edgesUpTo per i m) (edges-up-to s i (omega arith)) e
 
   pub edges-in : AllButRings m → EdgesUpTo m per (length per) (edgesIn per m)
   edges-in s = rw (edges-said per m) (edges-up-to s (length per) (omega arith))

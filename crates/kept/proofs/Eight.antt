@@ -73,11 +73,12 @@ not8-insertChecks m names per =
 
 -- ---- a call
 
--- what stands behind an edit's work: a sound mesh, finite numbers, checks that passed, and a need that is met
+-- what stands behind an edit's work: a sound mesh, finite numbers, checks that passed, finite moves, and a need that is met
 pub record Behind (m : Mesh) (e : Edit) (keys : List ℕ) : Type 0 where
   pub was-sound : T (sound m)
   pub numbers-given : T (given e keys)
   pub checks-passed : T (accepted (checks m e keys))
+  pub moves-finite : T (movesFinite m e)
   pub need-met : T (roomFor m (need m e keys))
 
 yes-yes : (b : Bool) → not b ≡ false → T b
@@ -96,15 +97,15 @@ not8-worked s n t = go (accepted (s .answer)) (sound (s .tables)) t
 module _ (m : Mesh) (e : Edit) (keys : List ℕ) where
   not8-decided : Not8 (checks m e keys) → Not8 (work m e keys .answer) → (Behind m e keys → T (sound (work m e keys .tables))) → T (sound m) → Not8 (decided m e keys .answer)
   unfolding decided
-  not8-decided c w h t = go (not (given e keys)) (not (accepted (checks m e keys))) (not (movesFinite m e)) (not (roomFor m (need m e keys))) refl refl refl
+  not8-decided c w h t = go (not (given e keys)) (not (accepted (checks m e keys))) (not (movesFinite m e)) (not (roomFor m (need m e keys))) refl refl refl refl
     where
-      go : (a b d f : Bool) → not (given e keys) ≡ a → not (accepted (checks m e keys)) ≡ b → not (roomFor m (need m e keys)) ≡ f → Not8 (cond a (stops m Argument) (cond b (step m (checks m e keys)) (cond d (stops m Argument) (cond f (stops m NoRoom) (worked (work m e keys))))) .answer)
-      go true b d f p q r = not8-early argument
-      go false true d f p q r = c
-      go false false true f p q r = not8-early argument
-      go false false false true p q r = not8-early no-room
-      go false false false false p q r =
-          not8-worked (work m e keys) w (h (record { was-sound = t; numbers-given = yes-yes (given e keys) p; checks-passed = yes-yes (accepted (checks m e keys)) q; need-met = yes-yes (roomFor m (need m e keys)) r }))
+      go : (a b d f : Bool) → not (given e keys) ≡ a → not (accepted (checks m e keys)) ≡ b → not (movesFinite m e) ≡ d → not (roomFor m (need m e keys)) ≡ f → Not8 (cond a (stops m Argument) (cond b (step m (checks m e keys)) (cond d (stops m Argument) (cond f (stops m NoRoom) (worked (work m e keys))))) .answer)
+      go true b d f p q o r = not8-early argument
+      go false true d f p q o r = c
+      go false false true f p q o r = not8-early argument
+      go false false false true p q o r = not8-early no-room
+      go false false false false p q o r =
+          not8-worked (work m e keys) w (h (record { was-sound = t; numbers-given = yes-yes (given e keys) p; checks-passed = yes-yes (accepted (checks m e keys)) q; moves-finite = yes-yes (movesFinite m e) o; need-met = yes-yes (roomFor m (need m e keys)) r }))
 
   -- an edit that keeps the mesh sound, behind its tests, is never answered with 8
   pub never-8 : (one two : Room) → Not8 (checks m e keys) → Not8 (work m e keys .answer) → (Behind m e keys → T (sound (work m e keys .tables))) → Not8 (called m one two (call e) keys .answer)
@@ -153,18 +154,18 @@ module _ (m : Mesh) (e : Edit) (keys : List ℕ) (t : T (sound m)) where
 
   decided-zero : told (decided m e keys .answer) .number ≡ 0 → Accepted m e keys (kept m (decided m e keys))
   unfolding decided
-  decided-zero h = go (not (given e keys)) (not (accepted (checks m e keys))) (not (movesFinite m e)) (not (roomFor m (need m e keys))) refl refl refl h
+  decided-zero h = go (not (given e keys)) (not (accepted (checks m e keys))) (not (movesFinite m e)) (not (roomFor m (need m e keys))) refl refl refl refl h
     where
       step-of : (a b d f : Bool) → Step
       step-of a b d f = cond a (stops m Argument) (cond b (step m (checks m e keys)) (cond d (stops m Argument) (cond f (stops m NoRoom) (worked w))))
 
-      go : (a b d f : Bool) → not (given e keys) ≡ a → not (accepted (checks m e keys)) ≡ b → not (roomFor m (need m e keys)) ≡ f → told (step-of a b d f .answer) .number ≡ 0 → Accepted m e keys (kept m (step-of a b d f))
-      go true b d f p q r z = absurd (zero-refused Argument z)
-      go false true d f p q r z = absurd (zero-accepted (checks m e keys) z (not-true (accepted (checks m e keys)) q))
-      go false false true f p q r z = absurd (zero-refused Argument z)
-      go false false false true p q r z = absurd (zero-refused NoRoom z)
-      go false false false false p q r z =
-          worked-zero (record { was-sound = t; numbers-given = yes-yes (given e keys) p; checks-passed = yes-yes (accepted (checks m e keys)) q; need-met = yes-yes (roomFor m (need m e keys)) r }) z
+      go : (a b d f : Bool) → not (given e keys) ≡ a → not (accepted (checks m e keys)) ≡ b → not (movesFinite m e) ≡ d → not (roomFor m (need m e keys)) ≡ f → told (step-of a b d f .answer) .number ≡ 0 → Accepted m e keys (kept m (step-of a b d f))
+      go true b d f p q o r z = absurd (zero-refused Argument z)
+      go false true d f p q o r z = absurd (zero-accepted (checks m e keys) z (not-true (accepted (checks m e keys)) q))
+      go false false true f p q o r z = absurd (zero-refused Argument z)
+      go false false false true p q o r z = absurd (zero-refused NoRoom z)
+      go false false false false p q o r z =
+          worked-zero (record { was-sound = t; numbers-given = yes-yes (given e keys) p; checks-passed = yes-yes (accepted (checks m e keys)) q; moves-finite = yes-yes (movesFinite m e) o; need-met = yes-yes (roomFor m (need m e keys)) r }) z
 
 pub answer-zero : (m : Mesh) (e : Edit) (keys : List ℕ) (one two : Room) → told (called m one two (call e) keys .answer) .number ≡ 0 → Accepted m e keys (called m one two (call e) keys .mesh)
 unfolding called ready

@@ -74,18 +74,21 @@ module _ (m : Mesh) (s : SoundFacts m) (f : ℕ) (u : IsFace m f) where
       let q : k < n = rw vertices-length at l in
       rw (vertex-at k q) (s .ends-exist (on k) (ring-place-holds m f r k q .exists) .1)
 
+  -- an arc leaves where the one before it arrives
+  pub ring-follows : (k : ℕ) → k < n → source m (on (after n k)) ≡ dest m (on k)
+  ring-follows k q =
+      let h = ring-place-holds m f r k q in
+      let b = in-table (m .arcs) (on (after n k)) (ring-place-holds m f r (after n k) (after-low n k q) .exists) in
+      let e = ring-next k q in
+      ap (source m) (sym e) ∙ s .next-leaves (on k) (h .exists) (λ z. omega (arith, b .0)) .1
+
   -- each is joined to the one after it
   pub ring-pair : (k : ℕ) → k < length vs → Between (m .arcs) (getD vs k 0) (getD vs (after (length vs) k) 0) (on (after n k))
   ring-pair k l =
       let q : k < n = rw vertices-length at l in
-      let h = ring-place-holds m f r k q in
-      let g = ring-place-holds m f r (after n k) (after-low n k q) in
-      let e = ring-next k q in
-      let b = in-table (m .arcs) (on (after n k)) (g .exists) in
-      let w = s .next-leaves (on k) (h .exists) (λ z. omega (arith, b .0)) in
       record {
-        exists = g .exists;
-        leaves = ap (source m) (sym e) ∙ w .1 ∙ sym (vertex-at k q);
+        exists = ring-place-holds m f r (after n k) (after-low n k q) .exists;
+        leaves = ring-follows k q ∙ sym (vertex-at k q);
         arrives = sym (ap (λ (z : ℕ). getD vs (after z k) 0) vertices-length ∙ vertex-at (after n k) (after-low n k q));
       }
 

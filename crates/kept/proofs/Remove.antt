@@ -202,6 +202,10 @@ module _ (m : Mesh) (s : SoundFacts m) (f : ℕ) (u : IsFace m f) where
       subst (KeepsEnds m) (sym (removed .1))
       (record { arcs = λ x h. subst (λ (z : ℕ). T (not (eqb z 0))) (sym (w .source-stays x)) h; sources = λ x h. w .source-stays x; dests = λ x h. w .dest-stays x; vertices = λ v h. h; arc-rows = w .rows; counter-rows = refl })
 
+  -- a face other than it is one still
+  pub remove-face : (g : ℕ) → (g ≡ f → ⊥) → IsFace m g → IsFace (remove m f) g
+  remove-face g ne h = subst (λ (n : Mesh). IsFace n g) (sym (removed .1)) (face-still g ne h)
+
   pub remove-rest : (remove m f .edges ≡ m .edges) × (remove m f .counters ≡ m .counters) × (remove m f .vertices ≡ m .vertices)
   remove-rest = (ap (λ (n : Mesh). n .edges) (removed .1), ap (λ (n : Mesh). n .counters) (removed .1), ap (λ (n : Mesh). n .vertices) (removed .1))
 

@@ -1,6 +1,6 @@
 -- A face that edits spare, one after another, has the same ring in the end, arc for arc, if its ring is sound then.
 use Prim.Native.Nat.{ℕ}
-use mathlib.Core.Path.{_≡_, sym, subst, _∙_}
+use mathlib.Core.Path.{_≡_, refl, sym, subst, _∙_}
 use mathlib.Core.Bool.{not}
 use mathlib.Core.Logic.{_⊎_, inl, inr}
 use lib.Dec.{T, eqb}
@@ -22,6 +22,9 @@ stays-spared record-stays s =
       next-or = λ x h. inl (s .keeps x 2 h);
       previous-or = λ x h. inl (s .keeps x 3 h);
     }
+
+pub spared-none : (m : Mesh) (g : ℕ) → Spared m m g
+spared-none m g = record { record-stays = λ c. refl; still-hold = λ x h. h; no-more = λ x h. h; next-or = λ x h. inl refl; previous-or = λ x h. inl refl }
 
 -- one edit after another
 pub spared-onto : {m a n : Mesh} {g : ℕ} → Spared m a g → Spared a n g → Spared m n g

@@ -1,9 +1,9 @@
--- A face split that is accepted: its two inserts find their rows and keys, and faces other than the one named keep their record and the same
--- ring, arc for arc.
+-- A face split: the left half needs an edge only if there is none between the two vertices, and the right half none. So one edge, one face and
+-- two face keys suffice; and after one that is accepted, faces other than the one named keep their record and the same ring, arc for arc.
 use Prim.Native.Nat.{ℕ, _+_, _-_, _≤_, _<_, zero-le}
 use native.Mathlib.Omega.{arith}
 use native.Mathlib.Decide.{ℕ-discrete}
-use mathlib.Core.Path.{_≡_, ap, sym, subst, _∙_}
+use mathlib.Core.Path.{_≡_, refl, ap, sym, subst, _∙_}
 use mathlib.Core.Bool.{Bool, true, false, not, _||_, cond}
 use mathlib.Core.List.{List, []}
 use lib.ListN.{length, getD}
@@ -13,14 +13,14 @@ use Rattle.rules.specs.declared.Answer.{Answer}
 use Rattle.rules.specs.declared.Answer.the-variants.{Done, Refused}
 use Rattle.rules.specs.declared.Refusal.the-variants.{TopologyNotFound, TopologyMalformed, TopologyConflict}
 use Rattle.rules.specs.declared.Edit.the-variants.{FaceSplit}
-use Rattle.rules.specs.Table.{count, unused, firstRow}
-use Rattle.rules.specs.Mesh.{Mesh, Room, findArc, findVertex, findFace, keyLimit, vertexKind, edgeKind, faceKind, nextKey}
+use Rattle.rules.specs.Table.{firstRow}
+use Rattle.rules.specs.Mesh.{Mesh, Room, findArc, findVertex, findFace}
 use Rattle.rules.specs.Link.{ringVertices}
 use Rattle.rules.specs.Step.{Step, told, accepted}
 use Rattle.rules.specs.Insert.{arcAt, insertChecks, listsOf, putFace}
 use Rattle.rules.specs.Edit.{place, ringDistance, stretch, half, heldByOther, remove, splitChecks, splitWork}
 use Rattle.rules.specs.Sound.{sound}
-use Rattle.rules.specs.Call.{needs, checks, need, insertNeed, pairsWithout, arcByKeys, work, faceSplit}
+use Rattle.rules.specs.Call.{Need, needs, checks, need, insertNeed, pairsWithout, arcByKeys, work, faceSplit}
 use Rattle.rules.proofs.Counts.{found-passes}
 use Rattle.rules.proofs.Scan.{first-le}
 use Rattle.proved.specs.Demand.{Holds}
@@ -30,20 +30,26 @@ use Rattle.proved.proofs.Ring.{ring-counts, ring-from}
 use Rattle.proved.proofs.Clauses.{facts}
 use Rattle.kept.specs.Frame.{AllButRings, ThreeCounters, Met}
 use Rattle.kept.specs.Perimeter.{Perimeter, corner, following, ListsLeave}
-use Rattle.kept.specs.Reaches.{InsertMakes, KeepsEnds, Spared, SameRing}
+use Rattle.kept.specs.Reaches.{KeepsEnds, Spared, SameRing}
+use Rattle.kept.specs.Makers.{Makers, LikeRules, putFaceBy, splitWorkBy}
+use Rattle.kept.specs.Suffices.{Tally, Within}
 use Rattle.kept.proofs.Base.{but-rings}
 use Rattle.kept.proofs.Counted.{met}
 use Rattle.kept.proofs.Find.{Between, find-back, arc-back, arc-some}
 use Rattle.kept.proofs.Spared.{spared-onto, same-ring}
-use Rattle.kept.proofs.Remove.{remove-kept, remove-spares, remove-ends, remove-rest, remove-frees}
+use Rattle.kept.proofs.Remove.{remove-kept, remove-spares, remove-ends}
 use Rattle.kept.proofs.Lists.{lists-leave}
-use Rattle.kept.proofs.Insert.{insert-kept}
 use Rattle.kept.proofs.Passed.{Passed, passed, places-apart}
-use Rattle.kept.proofs.Reaches.{NotOn, not-on, insert-ends, insert-joined, insert-makes, insert-spares}
+use Rattle.kept.proofs.Reaches.{NotOn, not-on}
 use Rattle.kept.proofs.Halves.{vertices-length, half-vertex, half-end, half-start, half-need}
 use Rattle.kept.proofs.Stretch.{stretch-ends}
 use Rattle.kept.proofs.Keeps.{keeps-none, keeps-onto, back-there}
 use Rattle.kept.proofs.Eight.{answer-zero, checked-through}
+use Rattle.kept.proofs.Makers.{put-face-by}
+use Rattle.kept.proofs.Tallies.{tally-onto, left-met, tally-remove}
+use Rattle.kept.proofs.Along.{along-checked}
+use Rattle.kept.proofs.Put.{Put, put-in}
+use Rattle.kept.proofs.WithinNeed.{Made, step-made}
 
 -- ---- places
 
@@ -56,15 +62,11 @@ place-is l x n =
 
 -- ---- the two inserts
 
--- what stands behind them
-pub record SplitRoom (m : Mesh) (a b : ℕ) : Type 0 where
-  pub edge-rows : cond (eqb (findArc m a b) 0) 1 0 ≤ count unused (m .edges)
-  pub face-rows : 1 ≤ count unused (m .faces)
-  pub vertex-keys : nextKey m vertexKind + 0 ≤ keyLimit
-  pub edge-keys : nextKey m edgeKind + cond (eqb (findArc m a b) 0) 1 0 ≤ keyLimit
-  pub face-keys : nextKey m faceKind + 2 ≤ keyLimit
+-- what a split from a to b needs
+abbrev pub splitNeed : Mesh → ℕ → ℕ → Need
+splitNeed m a b = needs 0 (cond (eqb (findArc m a b) 0) 1 0) 1 2
 
-module _ (m : Mesh) (s : SoundFacts m) (k : ThreeCounters m) (f a b : ℕ) (u : IsFace m f) (pa : place (ringVertices m f) a ≡ 0 → ⊥) (pb : place (ringVertices m f) b ≡ 0 → ⊥) (r : SplitRoom m a b) where
+module _ (m : Mesh) (s : SoundFacts m) (k : ThreeCounters m) (f a b : ℕ) (u : IsFace m f) (pa : place (ringVertices m f) a ≡ 0 → ⊥) (pb : place (ringVertices m f) b ≡ 0 → ⊥) (r : Met m (splitNeed m a b)) where
   abbrev vs : List ℕ
   vs = ringVertices m f
 
@@ -104,8 +106,8 @@ module _ (m : Mesh) (s : SoundFacts m) (k : ThreeCounters m) (f a b : ℕ) (u : 
   three : (n : Mesh) → KeepsEnds m n → ThreeCounters n
   three n w = omega (arith, w .counter-rows)
 
-  same-key : (c : ℕ) → nextKey m₁ c ≡ nextKey m c
-  same-key c = ap (λ (z : List ℕ). getD z c 0) (remove-rest m s f u .1)
+  tally₁ : Tally m m₁ 0 0 0 1
+  tally₁ = tally-remove m s f u
 
   -- a half that passes the checks is a perimeter
   half-perimeter : (n : Mesh) → KeepsEnds m n → (x y : ℕ) (xl : x < length vs) (yl : y < length vs) → Passed m₁ (stretch vs x y) (stretch vs x y) → Perimeter n (stretch vs x y)
@@ -136,16 +138,7 @@ module _ (m : Mesh) (s : SoundFacts m) (k : ThreeCounters m) (f a b : ℕ) (u : 
 
     need₁ : Met m₁ (insertNeed m₁ left)
     unfolding insertNeed
-    need₁ =
-        let l = left-need in
-        record {
-          vertex-rows = zero-le;
-          edge-rows = omega (arith, ap (count unused) (remove-rest m s f u .0), r .edge-rows);
-          face-rows = omega (arith, remove-frees m s f u);
-          vertex-keys = omega (arith, same-key vertexKind, r .vertex-keys);
-          edge-keys = omega (arith, same-key edgeKind, r .edge-keys);
-          face-keys = omega (arith, same-key faceKind, r .face-keys);
-        }
+    need₁ = left-met tally₁ r (omega arith) (omega (arith, left-need)) (omega arith) (omega arith)
 
     abbrev m₂ : Mesh
     m₂ = putFace m₁ left (listsOf m₁ left) 0
@@ -153,14 +146,14 @@ module _ (m : Mesh) (s : SoundFacts m) (k : ThreeCounters m) (f a b : ℕ) (u : 
     leave₁ : ListsLeave m₁ left (listsOf m₁ left)
     leave₁ = lists-leave m₁ b₁ left p₁
 
-    b₂ : AllButRings m₂
-    b₂ = insert-kept m₁ b₁ left p₁ (three m₁ k₁) need₁ (listsOf m₁ left) leave₁ 0
+    put₁ : Put m₁ m₂ left
+    put₁ = put-in m₁ b₁ left p₁ (three m₁ k₁) need₁ (listsOf m₁ left) leave₁ 0
 
-    k₁₂ : KeepsEnds m₁ m₂
-    k₁₂ = insert-ends m₁ b₁ left p₁ (three m₁ k₁) need₁ (listsOf m₁ left) leave₁ 0
+    b₂ : AllButRings m₂
+    b₂ = put₁ .base
 
     k₂ : KeepsEnds m m₂
-    k₂ = keeps-onto k₁ k₁₂
+    k₂ = keeps-onto k₁ (put₁ .keeps)
 
     p₂ : Perimeter m₂ right
     p₂ = half-perimeter m₂ k₂ j i jl il qr
@@ -175,31 +168,40 @@ module _ (m : Mesh) (s : SoundFacts m) (k : ThreeCounters m) (f a b : ℕ) (u : 
 
         there-is : findArc m₂ a b ≡ 0 → ⊥
         there-is =
-            let w = insert-joined m₁ b₁ left p₁ (three m₁ k₁) need₁ (listsOf m₁ left) leave₁ 0 last (omega (arith, ql .at-least-3)) in
+            let w = put₁ .joined last (omega (arith, ql .at-least-3)) in
             let h : Between (m₂ .arcs) b a (w .0) = record { exists = w .1 .exists; leaves = w .1 .leaves ∙ half-end m s f u i j il jl ∙ place-is vs b pb .1; arrives = w .1 .arrives ∙ half-start m s f u i j il jl ∙ place-is vs a pa .1 } in
             back-there m₂ m₂ b₂ (keeps-none m₂) b a (w .0) h
 
-    makes : InsertMakes m₁ m₂ left
-    makes = insert-makes m₁ b₁ left p₁ (three m₁ k₁) need₁ (listsOf m₁ left) leave₁ 0
+    tally₂ : Tally m m₂ 0 (pairsWithout m₁ left) 1 1
+    tally₂ = tally-onto tally₁ (put₁ .tally) (omega arith) (omega arith) (omega arith) (omega arith)
 
     need₂ : Met m₂ (insertNeed m₂ right)
     unfolding insertNeed
-    need₂ =
-        let none = right-need in
-        record {
-          vertex-rows = zero-le;
-          edge-rows = omega arith;
-          face-rows = omega (arith, makes .faces-made, remove-frees m s f u, r .face-rows);
-          vertex-keys = omega (arith, makes .vertex-keys, same-key vertexKind, r .vertex-keys);
-          edge-keys = omega (arith, makes .edge-keys, same-key edgeKind, left-need, r .edge-keys);
-          face-keys = omega (arith, makes .face-keys, same-key faceKind, r .face-keys);
-        }
+    need₂ = left-met tally₂ r (omega arith) (omega (arith, left-need, right-need)) (omega arith) (omega arith)
 
     -- the lists of the right half, taken before the left one was in
     leave₂ : ListsLeave m₂ right (listsOf m₁ right)
     leave₂ c l y h =
         let w = lists-leave m₁ b₁ right (half-perimeter m₁ k₁ j i jl il qr) c l y h in
-        (k₁₂ .arcs y (w .0), k₁₂ .sources y (w .0) ∙ w .1)
+        (put₁ .keeps .arcs y (w .0), put₁ .keeps .sources y (w .0) ∙ w .1)
+
+    abbrev m₃ : Mesh
+    m₃ = putFace m₂ right (listsOf m₁ right) 0
+
+    put₂ : Put m₂ m₃ right
+    put₂ = put-in m₂ b₂ right p₂ (three m₂ k₂) need₂ (listsOf m₁ right) leave₂ 0
+
+    tally₃ : Tally m m₃ 0 (pairsWithout m₁ left + pairsWithout m₂ right) 2 1
+    tally₃ = tally-onto tally₂ (put₂ .tally) (omega arith) refl (omega arith) (omega arith)
+
+    -- one edge at most
+    edges-few : pairsWithout m₁ left + pairsWithout m₂ right ≤ cond (eqb (findArc m a b) 0) 1 0
+    edges-few = omega (arith, left-need, right-need)
+
+    both-by : (by : Makers) → LikeRules by → putFaceBy by (putFaceBy by m₁ left (listsOf m₁ left) 0) right (listsOf m₁ right) 0 ≡ m₃
+    both-by by like =
+        ap (λ (z : Mesh). putFaceBy by z right (listsOf m₁ right) 0) (put-face-by by like m₁ b₁ left p₁ (three m₁ k₁) need₁ (listsOf m₁ left) 0)
+        ∙ put-face-by by like m₂ b₂ right p₂ (three m₂ k₂) need₂ (listsOf m₁ right) 0
 
     -- ---- other faces
 
@@ -214,7 +216,7 @@ module _ (m : Mesh) (s : SoundFacts m) (k : ThreeCounters m) (f a b : ℕ) (u : 
       face-in n w = subst (λ (z : ℕ). T (not (eqb z 0))) (sym (w .record-stays 0)) v
 
       second : Spared m₁ m₂ g
-      second = insert-spares m₁ b₁ left p₁ (three m₁ k₁) need₁ (listsOf m₁ left) leave₁ 0 g (face-in m₁ first) (not-on m₁ left (ql .no-conflict) g none)
+      second = put₁ .spares g (face-in m₁ first) (not-on m₁ left (ql .no-conflict) g none)
 
       -- the right half's arcs do not hold it either
       off-right : NotOn m₂ right g
@@ -225,20 +227,34 @@ module _ (m : Mesh) (s : SoundFacts m) (k : ThreeCounters m) (f a b : ℕ) (u : 
           let b′ = following right c in
           let w = second .no-more x h in
           let found = arc-back (m₂ .arcs) a′ b′ (λ e. let t = in-table (m₂ .arcs) x (h .exists) in omega arith) in
-          let here : Between (m₁ .arcs) a′ b′ x = record { exists = w .exists; leaves = sym (k₁₂ .sources x (w .exists)) ∙ found .leaves; arrives = sym (k₁₂ .dests x (w .exists)) ∙ found .arrives } in
+          let here : Between (m₁ .arcs) a′ b′ x = record { exists = w .exists; leaves = sym (put₁ .keeps .sources x (w .exists)) ∙ found .leaves; arrives = sym (put₁ .keeps .dests x (w .exists)) ∙ found .arrives } in
           let some = arc-some (m₁ .arcs) a′ b′ (omega (arith, b₁ .sizes .arc-rows, b₁ .sizes .edge-rows)) x here in
           let was = arc-back (m₁ .arcs) a′ b′ some in
           let e : arcAt m₁ right c ≡ x = b₁ .pairs-differ (arcAt m₁ right c) x (was .exists) (w .exists) (was .leaves ∙ sym (here .leaves)) (was .arrives ∙ sym (here .arrives)) in
           not-on m₁ right (qr .no-conflict) g none c l (subst (Holds m₁ g) (sym e) w)
 
-      pub split-spares : Spared m (putFace m₂ right (listsOf m₁ right) 0) g
-      split-spares =
-          spared-onto first (spared-onto second (insert-spares m₂ b₂ right p₂ (three m₂ k₂) need₂ (listsOf m₁ right) leave₂ 0 g (face-in m₂ (spared-onto first second)) off-right))
+      pub split-spares : Spared m m₃ g
+      split-spares = spared-onto first (spared-onto second (put₂ .spares g (face-in m₂ (spared-onto first second)) off-right))
+
+  -- the need of a split suffices
+  pub split-made : (by : Makers) → LikeRules by → Made m (splitNeed m a b) 1 (splitWork m f a b) (splitWorkBy by m f a b)
+  unfolding splitWork splitWorkBy half
+  split-made by like =
+      along-checked m₁ (insertChecks m₁ left left) _ _ removed-only
+      (λ h. along-checked m₁ (insertChecks m₁ right right) _ _ removed-only
+      (λ h′.
+      let ql = passed m₁ left left h in
+      let qr = passed m₁ right right h′ in
+      step-made (putFaceBy by (putFaceBy by m₁ left (listsOf m₁ left) 0) right (listsOf m₁ right) 0) _ (splitNeed m a b) (tally₃ ql qr) (edges-few ql qr) (omega arith) (both-by ql qr by like)))
+    where
+      removed-only : Within m m₁ (splitNeed m a b) 1
+      removed-only =
+          record { vertices = 0; edges = 0; faces = 0; tally = tally₁; vertices-needed = zero-le; edges-needed = zero-le; faces-needed = zero-le; face-keys-needed = zero-le }
 
 -- ---- the call
 
 -- the checks of a split that pass
-split-passed : (m : Mesh) (f a b : ℕ) → T (accepted (splitChecks m f a b)) → (f ≡ 0 → ⊥) × (place (ringVertices m f) a ≡ 0 → ⊥) × (place (ringVertices m f) b ≡ 0 → ⊥)
+pub split-passed : (m : Mesh) (f a b : ℕ) → T (accepted (splitChecks m f a b)) → (f ≡ 0 → ⊥) × (place (ringVertices m f) a ≡ 0 → ⊥) × (place (ringVertices m f) b ≡ 0 → ⊥)
 unfolding splitChecks accepted
 split-passed m f a b h = go (ℕ-discrete f 0) (ℕ-discrete (place (ringVertices m f) a) 0) (ℕ-discrete (place (ringVertices m f) b) 0) h
   where
@@ -271,8 +287,7 @@ split-keeps-rings m one two f a b k h g v ne =
     let m₃ = putFace (putFace m₁ left (listsOf m₁ left) 0) right (listsOf m₁ right) 0 in
     let c = split-passed m face from to (w .behind .checks-passed) in
     let u = find-back (m .faces) f (c .0) .0 in
-    let e = met m (needs 0 (cond (eqb (findArc m from to) 0) 1 0) 1 2) (w .behind .need-met) in
-    let room : SplitRoom m from to = record { edge-rows = e .edge-rows; face-rows = e .face-rows; vertex-keys = e .vertex-keys; edge-keys = e .edge-keys; face-keys = e .face-keys } in
+    let room = met m (splitNeed m from to) (w .behind .need-met) in
     let first = checked-through m₁ (insertChecks m₁ left left) _ (w .work-accepted) in
     let second = checked-through m₁ (insertChecks m₁ right right) _ (subst (λ (t : Step). T (accepted (t .answer))) (first .1) (w .work-accepted)) in
     let is : faceSplit m one two f a b .mesh ≡ m₃ = w .is ∙ ap (λ (t : Step). t .tables) (first .1 ∙ second .1) in

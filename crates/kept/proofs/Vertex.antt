@@ -9,20 +9,22 @@ use lib.ListN.{length, getD, length-set}
 use lib.Ieee.{Float, nan, binary64, toBits}
 use lib.Dec.{T}
 use Rattle.rules.specs.declared.Position.{Position}
+use Rattle.rules.specs.declared.Move.{Move}
 use Rattle.rules.specs.declared.Edit.the-variants.{VertexInsert}
 use Rattle.rules.specs.Table.{cell, there}
 use Rattle.rules.specs.Mesh.{Mesh, Room, leading, vertexKind, edgeKind, faceKind, nextKey, oneUp}
-use Rattle.rules.specs.Point.{rowOf, finitePosition, finiteRow, exponentField}
+use Rattle.rules.specs.Point.{rowOf, positionAt, finitePosition, finiteRow, exponentField}
 use Rattle.rules.specs.Link.{putVertex, newVertex, freeVertex}
+use Rattle.rules.specs.Extrude.{movedPosition}
 use Rattle.rules.specs.Call.{given, checks, need, needs, roomFor, work, vertexInsert}
 use Rattle.rules.specs.Step.{told}
 use Rattle.proved.specs.Facts.{SoundFacts, IsVertex, coordinate}
-use Rattle.proved.proofs.Rows.{differ-T}
+use Rattle.proved.proofs.Rows.{differ-T, in-table}
 use Rattle.proved.proofs.Clauses.{facts, sound-from, finite-row}
 use Rattle.kept.specs.Frame.{Took, RingStays, ThreeCounters, RoomForVertex}
 use Rattle.kept.specs.Reaches.{KeepsEnds}
 use Rattle.kept.proofs.Cells.{putRow-rows, row-here, row-other}
-use Rattle.kept.proofs.Free.{took, new-there, old-there, old-cell, there-cases, took-zero, took-keys-differ, took-keys-below}
+use Rattle.kept.proofs.Free.{took, new-there, old-differs, old-there, old-cell, there-cases, took-zero, took-keys-differ, took-keys-below}
 use Rattle.kept.proofs.Counted.{met, key-back, one-up-some, counted-here, counted-other}
 use Rattle.kept.proofs.Rings.{ring-stays}
 use Rattle.kept.proofs.Eight.{never-8, not8-done, not8-key}
@@ -42,6 +44,12 @@ module _ (m : Mesh) (p : Position) (r : RoomForVertex m) (s : SoundFacts m) wher
   pub position-old : (v c : ℕ) → 1 ≤ v → (v ≡ freeVertex m → ⊥) → coordinate (newVertex m p) v c ≡ coordinate m v c
   unfolding newVertex putVertex
   position-old v c a ne = ap (λ (z : List Float). getD z c nan) (row-other (m .positions) (rowOf p) [] (freeVertex m) v a ne)
+
+  -- a vertex that was there is moved from where it was
+  pub moved-from : (v : ℕ) → IsVertex m v → (move : Move) → movedPosition (newVertex m p) move v ≡ movedPosition m move v
+  unfolding movedPosition positionAt newVertex putVertex
+  moved-from v u move =
+      rw (putRow-rows (m .positions) (freeVertex m) (rowOf p), row-other (m .positions) (rowOf p) [] (freeVertex m) v (in-table (m .vertices) v u .0) (old-differs vertex-took v u))
 
   -- arcs, edges and faces stay, so every ring does
   pub vertex-rest : (newVertex m p .arcs ≡ m .arcs) × (newVertex m p .edges ≡ m .edges) × (newVertex m p .faces ≡ m .faces)

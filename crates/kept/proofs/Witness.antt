@@ -1,17 +1,21 @@
--- Two computed examples. A mesh lent without its counters, which the code's types rule out, is answered with 8 by a vertex insert: so the
+-- Three computed examples. A mesh lent without its counters, which the code's types rule out, is answered with 8 by a vertex insert: so the
 -- theorems on 8 take it that the counters are there. And the theorem on fresh vertices speaks of calls that are accepted: three vertices, and
--- a face on them.
-use Prim.Native.Nat.{ℕ}
-use mathlib.Core.Path.{_≡_, refl, subst}
+-- a face on them. And where the test of the need fails an edit does run out, so what the law on needs says is not said of every mesh.
+use Prim.Native.Nat.{ℕ, _+_}
+use native.Mathlib.Omega.{arith}
+use mathlib.Core.Path.{_≡_, refl, ap, subst}
+use mathlib.Core.Bool.{_&&_, cond}
 use mathlib.Core.List.{List, [], _∷_}
 use lib.ListN.{replicate}
-use lib.Dec.{T}
+use lib.Dec.{T, leb}
+use borrow.Author.Tests.{le-leb}
+use Rattle.rules.specs.declared.Edit.{Edit}
 use Rattle.rules.specs.declared.Edit.the-variants.{VertexInsert}
 use Rattle.rules.specs.Table.{Table, there, cell, put, putRow, firstRow, freeRow, count, every, someBelow, allBelow, sumBelow, upTo, has, distinct}
-use Rattle.rules.specs.Mesh.{Mesh, mesh, oppositeOf, findKey, arcBetween, oneUp}
+use Rattle.rules.specs.Mesh.{Mesh, mesh, keyLimit, vertexKind, nextKey, oppositeOf, findKey, arcBetween, oneUp}
 use Rattle.rules.specs.Point.{position, zeroFloat, exponentField, finiteNumber, zeroNumber, positionAt, finitePosition, finiteRow, zeroPositionRow}
 use Rattle.rules.specs.Link.{putVertex, newVertex, connect, setFace, walk, walkEnded, ring, ringEnded, arcCount, turnIn, outgoing, newArc, newEdge, getOrInsertEdge}
-use Rattle.rules.specs.Step.{numberOf, told, accepted, andThen, answering, checked}
+use Rattle.rules.specs.Step.{Step, numberOf, told, accepted, andThen, answering, checked}
 use Rattle.rules.specs.Insert.{arcAt, malformed, hasFace, leadsBack, conflict, insertChecks, edgesIn, newFace, interior, facelessIn, exteriorAt, exterior, putFace, listsOf, insertWork, insertFace}
 use Rattle.rules.specs.Sound.{withinLimits, keysOf, keysDiffer, keysBelow, hasBothArcs, bothArcs, endsDiffer, endsExist, pairsDiffer, edgeJoins, leadsOut, nextLeaves, previousArrives, faceExists, namesHolder, closed, comesBack, threeToLimit, sourcesDiffer, ringHolds, holdersOnRing, runsBack, ringSound, ringsSound, positionsZero, restZero, allFinite, sound}
 use Rattle.rules.specs.Call.{roomEnough, zeroed, ready, given, byKeys, checks, movesFinite, pairsWithout, insertNeed, need, rowsFor, keysFor, roomFor, work, lastStep, worked, decided, kept, called, vertexInsert, faceInsert}
@@ -19,6 +23,8 @@ use Rattle.rules.specs.Script.{emptyRoom, emptyMesh}
 use lib.Ieee.{span, climb, size, odd, units, round, ofFields, ofBits, toBits}
 use Rattle.proved.proofs.Reached.{none-there}
 use Rattle.kept.specs.Reaches.{NoArcAt}
+use Rattle.kept.specs.Makers.{Makers, LikeRules, workBy}
+use Rattle.kept.specs.Suffices.{Suffices}
 use Rattle.proved.specs.Demand.{Made, made, afterCall, afterCalls, reached}
 
 -- an empty mesh of one vertex row, without its counters
@@ -47,3 +53,24 @@ fresh-there = record { none-leaves = λ x k u h e. none x u; none-arrives = λ x
   where
     none : (x : ℕ) → T (there (reached 3 3 1 three .arcs) x) → ⊥
     none x u = none-there 6 (0 ∷ 0 ∷ 0 ∷ 0 ∷ 0 ∷ 0 ∷ []) tt x (subst (λ (t : Table). T (there t x)) no-arcs u)
+
+-- ---- what the law on needs rules out
+
+-- makers that make no vertex where no row or no key is left
+abbrev idle : Makers
+idle = record { vertex = λ m p. cond (leb 1 (freeRow (m .vertices)) && leb (nextKey m vertexKind + 1) keyLimit) (newVertex m p) m; edge = newEdge; face = newFace }
+
+idle-like : LikeRules idle
+idle-like =
+    record { vertex-same = λ m p r. rw (le-leb 1 (freeRow (m .vertices)) (r .a-row), le-leb (nextKey m vertexKind + 1) keyLimit (r .a-key)); edge-same = λ m a b r. refl; face-same = λ m x mark r. refl }
+
+-- a mesh without rows, where the test of the need fails: by the rules a vertex insert would count a key there and write no vertex, and by these makers do nothing
+abbrev rowless : Mesh
+rowless = mesh [] [] [] [] [] (0 ∷ 0 ∷ 0 ∷ [])
+
+abbrev insertThere : Edit
+insertThere = VertexInsert (position zeroFloat zeroFloat zeroFloat)
+
+pub runs-out : Suffices rowless insertThere [] → ⊥
+unfolding work workBy newVertex putVertex putRow freeRow firstRow oneUp
+runs-out h = let e : _≡_ {A = ℕ} 0 1 = ap (λ (t : Step). nextKey (t .tables) vertexKind) (h .never-out idle idle-like) in omega arith

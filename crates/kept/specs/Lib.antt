@@ -2,3 +2,5 @@ pub mod Frame
 pub mod Said
 pub mod Perimeter
 pub mod Reaches
+pub mod Makers
+pub mod Suffices

@@ -1,0 +1,46 @@
+-- A face insert as a part of an edit, in mid-edit too: what it leaves of a mesh of which every clause of Sound holds but perhaps that on rings.
+use Prim.Native.Nat.{ℕ, _<_}
+use mathlib.Core.List.{List}
+use lib.ListN.{length}
+use Rattle.rules.specs.Mesh.{Mesh}
+use Rattle.rules.specs.Insert.{listsOf, putFace, insertWork}
+use Rattle.rules.specs.Call.{insertNeed, pairsWithout}
+use Rattle.proved.specs.Facts.{IsFace}
+use Rattle.kept.specs.Frame.{AllButRings, ThreeCounters, Met}
+use Rattle.kept.specs.Perimeter.{Perimeter, corner, following, ListsLeave}
+use Rattle.kept.specs.Reaches.{KeepsEnds, Spared}
+use Rattle.kept.specs.Makers.{Makers, LikeRules, insertWorkBy}
+use Rattle.kept.specs.Suffices.{Tally}
+use Rattle.kept.proofs.Find.{Between}
+use Rattle.kept.proofs.Lists.{lists-leave}
+use Rattle.kept.proofs.Insert.{insert-kept}
+use Rattle.kept.proofs.Reaches.{NotOn, insert-ends, insert-joined, insert-makes, insert-spares}
+use Rattle.kept.proofs.Makers.{insert-by}
+use Rattle.kept.proofs.Tallies.{tally-insert}
+use Rattle.kept.proofs.Along.{Along}
+
+-- r is m with a face put on the perimeter
+pub record Put (m r : Mesh) (per : List ℕ) : Type 0 where
+  pub base : AllButRings r
+  pub keeps : KeepsEnds m r
+  pub joined : (i : ℕ) → i < length per → (x : ℕ) × Between (r .arcs) (corner per i) (following per i) x
+  pub tally : Tally m r 0 (pairsWithout m per) 1 0
+  pub spares : (g : ℕ) → IsFace m g → NotOn m per g → Spared m r g
+
+module _ (m : Mesh) (s : AllButRings m) (per : List ℕ) (p : Perimeter m per) (k : ThreeCounters m) (w : Met m (insertNeed m per)) where
+  pub put-in : (lists : List (List ℕ)) → ListsLeave m per lists → (mark : ℕ) → Put m (putFace m per lists mark) per
+  put-in lists leave mark =
+      record {
+        base = insert-kept m s per p k w lists leave mark;
+        keeps = insert-ends m s per p k w lists leave mark;
+        joined = insert-joined m s per p k w lists leave mark;
+        tally = tally-insert (insert-makes m s per p k w lists leave mark);
+        spares = insert-spares m s per p k w lists leave mark;
+      }
+
+  pub along-insert : {P Q : Mesh → Type 0} (by : Makers) → LikeRules by → (mark : ℕ) → ((r : Mesh) → Put m r per → P r) → ((r : Mesh) → P r → Q r) → Along P Q (insertWork m per mark) (insertWorkBy by m per mark)
+  unfolding insertWork
+  along-insert by like mark h q =
+      let r = putFace m per (listsOf m per) mark in
+      let here = h r (put-in (listsOf m per) (lists-leave m s per p) mark) in
+      record { goes = λ z. here; leaves = q r here; same = insert-by by like m s per p k w mark }
