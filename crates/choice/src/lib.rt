@@ -94,7 +94,7 @@ fn face_split(
     let f = rows::find_key3(faces, face);
     let from = rows::find_key2(vertices, s);
     let to = rows::find_key2(vertices, d);
-    edits::split::split_work(
+    split::split_work(
         vertices,
         arcs,
         edges,
@@ -124,7 +124,7 @@ fn face_poke(
     ensures { λ r. ⌜ ((ks : List ℕ) → step (mesh (now (vertices .exit)) (now (positions .exit)) (now (arcs .exit)) (now (edges .exit)) (now (faces .exit)) (now (counters .exit))) r ≡ Call.work (mesh (now (vertices .entry)) (now (positions .entry)) (now (arcs .entry)) (now (edges .entry)) (now (faces .entry)) (now (counters .entry))) (FacePoke face position) ks) ⌝ }
 {
     let f = rows::find_key3(faces, face);
-    edits::poke::poke_work(
+    poke::poke_work(
         vertices,
         positions,
         arcs,
@@ -154,7 +154,7 @@ fn face_bridge(
 {
     let f = rows::find_key3(faces, source);
     let g = rows::find_key3(faces, destination);
-    edits::bridge::bridge_work(
+    bridge::bridge_work(
         vertices,
         arcs,
         edges,
@@ -183,7 +183,7 @@ fn face_extrude(
     ensures { λ r. ⌜ ((ks : List ℕ) → step (mesh (now (vertices .exit)) (now (positions .exit)) (now (arcs .exit)) (now (edges .exit)) (now (faces .exit)) (now (counters .exit))) r ≡ Call.work (mesh (now (vertices .entry)) (now (positions .entry)) (now (arcs .entry)) (now (edges .entry)) (now (faces .entry)) (now (counters .entry))) (FaceExtrude face by) ks) ⌝ }
 {
     let f = rows::find_key3(faces, face);
-    edits::extrude::extrude_work(
+    extrude::extrude_work(
         vertices,
         positions,
         arcs,

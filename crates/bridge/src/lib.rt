@@ -1,0 +1,92 @@
+// Bridge. Document 01's rule 9: "Remove both; pair source arcs in order with destination arcs reversed; arc bridge each pair; the answer is
+// key 0."
+
+use edits::arc;
+use edits::pieces;
+use rules::Answer;
+use rules::ArcRow;
+use rules::EdgeRow;
+use rules::FaceRow;
+use rules::Links;
+use rules::VertexRow;
+use tables::answers;
+ghost use mathlib.Core.Path.{_≡_};
+ghost use mathlib.Core.List.{List, reverse};
+ghost use Prim.Native.Nat.{ℕ};
+ghost use lib.ListN.{length, getD};
+ghost use lib.Ieee.{Float};
+ghost use Rattle.rules.specs.Mesh.{mesh, listOf};
+ghost use Rattle.rules.specs.Step.{step};
+ghost use Rattle.rules.specs.Edit.{arcBridge, bridgeWork};
+ghost use Rattle.edits.specs.Each.{eachIn};
+
+// Each source arc with its destination arc, counted from the end: done, or the first refusal.
+fn pairs_in(
+    vertices: &mut [VertexRow],
+    arcs: &mut [ArcRow],
+    edges: &mut [EdgeRow],
+    faces: &mut [FaceRow],
+    counters: &mut [u32; 3],
+    past: &mut [ArcRow],
+    pastedges: &mut [EdgeRow],
+    forth: Links,
+    back: Links,
+) -> Answer
+    requires { ⌜ (length (now past) ≡ length (now arcs)) × (length (now pastedges) ≡ length (now edges)) ⌝ }
+    ensures { λ r. ⌜ ((p : List (List Float)) → step (mesh (now (vertices .exit)) p (now (arcs .exit)) (now (edges .exit)) (now (faces .exit)) (now (counters .exit))) r ≡ eachIn (λ i a. arcBridge a (getD (listOf forth) i 0) (getD (reverse (listOf back)) i 0)) (length (listOf forth)) (mesh (now (vertices .entry)) p (now (arcs .entry)) (now (edges .entry)) (now (faces .entry)) (now (counters .entry)))) ⌝ }
+{
+    let n = lists::size(forth);
+    let mut i: usize = 0;
+    while i < n {
+        let x = lists::item(forth, i);
+        let y = pieces::item_from_end(back, i);
+        let told = arc::arc_bridge(
+            vertices,
+            arcs,
+            edges,
+            faces,
+            counters,
+            past,
+            pastedges,
+            x,
+            y,
+        );
+        if !answers::accepted(told) {
+            return told;
+        }
+        i += 1;
+    }
+    Answer::Done
+}
+
+pub fn bridge_work(
+    vertices: &mut [VertexRow],
+    arcs: &mut [ArcRow],
+    edges: &mut [EdgeRow],
+    faces: &mut [FaceRow],
+    counters: &mut [u32; 3],
+    past: &mut [ArcRow],
+    pastedges: &mut [EdgeRow],
+    f: u32,
+    g: u32,
+) -> Answer
+    requires { ⌜ (length (now past) ≡ length (now arcs)) × (length (now pastedges) ≡ length (now edges)) ⌝ }
+    ensures { λ r. ⌜ ((p : List (List Float)) → step (mesh (now (vertices .exit)) p (now (arcs .exit)) (now (edges .exit)) (now (faces .exit)) (now (counters .exit))) r ≡ bridgeWork (mesh (now (vertices .entry)) p (now (arcs .entry)) (now (edges .entry)) (now (faces .entry)) (now (counters .entry))) f g) ⌝ }
+{
+    let forth = checks::rings::ring_of(arcs, faces, f);
+    let back = checks::rings::ring_of(arcs, faces, g);
+    edges::face::remove_face(arcs, faces, f);
+    edges::face::remove_face(arcs, faces, g);
+    let told = pairs_in(
+        vertices,
+        arcs,
+        edges,
+        faces,
+        counters,
+        past,
+        pastedges,
+        forth,
+        back,
+    );
+    pieces::answering(Answer::Key(0), told)
+}

@@ -1,0 +1,178 @@
+// Extrude. Document 01's rule 10: "Remove; moved copies of the ring's vertices; top face; walls (a,b,d,c) for each ring pair, c and d the
+// copies of a and b. Marks 0; the answer is the top face."
+
+use edits::face;
+use edits::pieces;
+use rules::Answer;
+use rules::ArcRow;
+use rules::EdgeRow;
+use rules::FaceRow;
+use rules::Links;
+use rules::Move;
+use rules::PositionRow;
+use rules::RING;
+use rules::VertexRow;
+use tables::answers;
+use tables::points;
+ghost use mathlib.Core.Path.{_≡_};
+ghost use mathlib.Core.List.{List};
+ghost use Prim.Native.Nat.{ℕ, _<_};
+ghost use lib.ListN.{length};
+ghost use lib.Ieee.{Float};
+ghost use Rattle.rules.specs.declared.Answer.the-variants.{Done};
+ghost use Rattle.rules.specs.Table.{Table, upTo};
+ghost use Rattle.rules.specs.Mesh.{mesh, linksOf, listOf};
+ghost use Rattle.rules.specs.Step.{step, andThen, answering};
+ghost use Rattle.rules.specs.Insert.{insertFace};
+ghost use Rattle.rules.specs.Extrude.{copies, wall, extrudeWork};
+ghost use Rattle.edits.specs.Each.{eachIn};
+
+// Moved copies of the vertices, made in order: their links.
+fn copies_in(
+    vertices: &mut [VertexRow],
+    positions: &mut [PositionRow],
+    counters: &mut [u32; 3],
+    by: Move,
+    vs: Links,
+) -> Links
+    ensures { λ r. ⌜ ((a e f : Table) → record { tables = mesh (now (vertices .exit)) (now (positions .exit)) a e f (now (counters .exit)); links = listOf r } ≡ copies (mesh (now (vertices .entry)) (now (positions .entry)) a e f (now (counters .entry))) by (listOf vs)) ⌝ }
+{
+    let n = lists::size(vs);
+    lists::known_few(vs);
+    let mut at = [0u32; RING];
+    let mut i: usize = 0;
+    while i < n {
+        let v = lists::item(vs, i);
+        let place = points::moved(points::position_at(positions, v), by);
+        at[i] = edges::vertex::new_vertex(vertices, positions, counters, place);
+        i += 1;
+    }
+    Links { at, len: n }
+}
+
+// The four corners of a wall: ring pair i, and its copies the other way.
+fn wall_at(vs: Links, ds: Links, i: usize) -> Links
+    requires { ⌜ i < length (listOf vs) ⌝ }
+    ensures { λ r. ⌜ r ≡ linksOf (wall (listOf vs) (listOf ds) i) ⌝ }
+{
+    let n = lists::size(vs);
+    let j = lists::place_after(n, i);
+    let mut at = [0u32; RING];
+    at[0] = lists::item(vs, i);
+    at[1] = lists::item(vs, j);
+    at[2] = lists::item(ds, j);
+    at[3] = lists::item(ds, i);
+    Links { at, len: 4 }
+}
+
+// The walls, ring pair by ring pair: done, or the first refusal.
+fn walls_in(
+    vertices: &mut [VertexRow],
+    arcs: &mut [ArcRow],
+    edges: &mut [EdgeRow],
+    faces: &mut [FaceRow],
+    counters: &mut [u32; 3],
+    past: &mut [ArcRow],
+    pastedges: &mut [EdgeRow],
+    vs: Links,
+    ds: Links,
+) -> Answer
+    requires { ⌜ (length (now past) ≡ length (now arcs)) × (length (now pastedges) ≡ length (now edges)) ⌝ }
+    ensures { λ r. ⌜ ((p : List (List Float)) → step (mesh (now (vertices .exit)) p (now (arcs .exit)) (now (edges .exit)) (now (faces .exit)) (now (counters .exit))) r ≡ eachIn (λ i a. insertFace a (wall (listOf vs) (listOf ds) i) 0) (length (listOf vs)) (mesh (now (vertices .entry)) p (now (arcs .entry)) (now (edges .entry)) (now (faces .entry)) (now (counters .entry)))) ⌝ }
+{
+    let n = lists::size(vs);
+    let mut i: usize = 0;
+    while i < n {
+        let told = face::insert_face(
+            vertices,
+            arcs,
+            edges,
+            faces,
+            counters,
+            past,
+            pastedges,
+            wall_at(vs, ds, i),
+            0,
+        );
+        if !answers::accepted(told) {
+            return told;
+        }
+        i += 1;
+    }
+    Answer::Done
+}
+
+// The top face, then the walls: done, or the first refusal.
+fn top_and_walls(
+    vertices: &mut [VertexRow],
+    arcs: &mut [ArcRow],
+    edges: &mut [EdgeRow],
+    faces: &mut [FaceRow],
+    counters: &mut [u32; 3],
+    past: &mut [ArcRow],
+    pastedges: &mut [EdgeRow],
+    vs: Links,
+    ds: Links,
+) -> Answer
+    requires { ⌜ (length (now past) ≡ length (now arcs)) × (length (now pastedges) ≡ length (now edges)) ⌝ }
+    ensures { λ r. ⌜ ((p : List (List Float)) → step (mesh (now (vertices .exit)) p (now (arcs .exit)) (now (edges .exit)) (now (faces .exit)) (now (counters .exit))) r ≡ answering Done (upTo (λ i s. andThen s (λ a. insertFace a (wall (listOf vs) (listOf ds) i) 0)) (length (listOf vs)) (insertFace (mesh (now (vertices .entry)) p (now (arcs .entry)) (now (edges .entry)) (now (faces .entry)) (now (counters .entry))) (listOf ds) 0))) ⌝ }
+{
+    let top = face::insert_face(
+        vertices,
+        arcs,
+        edges,
+        faces,
+        counters,
+        past,
+        pastedges,
+        ds,
+        0,
+    );
+    if !answers::accepted(top) {
+        return top;
+    }
+    walls_in(
+        vertices,
+        arcs,
+        edges,
+        faces,
+        counters,
+        past,
+        pastedges,
+        vs,
+        ds,
+    )
+}
+
+pub fn extrude_work(
+    vertices: &mut [VertexRow],
+    positions: &mut [PositionRow],
+    arcs: &mut [ArcRow],
+    edges: &mut [EdgeRow],
+    faces: &mut [FaceRow],
+    counters: &mut [u32; 3],
+    past: &mut [ArcRow],
+    pastedges: &mut [EdgeRow],
+    f: u32,
+    by: Move,
+) -> Answer
+    requires { ⌜ (length (now past) ≡ length (now arcs)) × (length (now pastedges) ≡ length (now edges)) ⌝ }
+    ensures { λ r. ⌜ step (mesh (now (vertices .exit)) (now (positions .exit)) (now (arcs .exit)) (now (edges .exit)) (now (faces .exit)) (now (counters .exit))) r ≡ extrudeWork (mesh (now (vertices .entry)) (now (positions .entry)) (now (arcs .entry)) (now (edges .entry)) (now (faces .entry)) (now (counters .entry))) f by ⌝ }
+{
+    let vs = checks::rings::vertices_of(arcs, faces, f);
+    let key = counters[2];
+    edges::face::remove_face(arcs, faces, f);
+    let ds = copies_in(vertices, positions, counters, by, vs);
+    let told = top_and_walls(
+        vertices,
+        arcs,
+        edges,
+        faces,
+        counters,
+        past,
+        pastedges,
+        vs,
+        ds,
+    );
+    pieces::answering(Answer::Key(key), told)
+}

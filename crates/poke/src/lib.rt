@@ -1,0 +1,112 @@
+// Poke. Document 01's rule 7: "Remove, new vertex c, then (a, b, c) for each ring pair. Marks are copied; the answer is c."
+
+use edits::face;
+use edits::pieces;
+use rules::Answer;
+use rules::ArcRow;
+use rules::EdgeRow;
+use rules::FaceRow;
+use rules::Links;
+use rules::Position;
+use rules::PositionRow;
+use rules::RING;
+use rules::VertexRow;
+use tables::answers;
+use tables::rows;
+ghost use mathlib.Core.Path.{_≡_};
+ghost use mathlib.Core.List.{List, [], _∷_};
+ghost use Prim.Native.Nat.{ℕ, _<_};
+ghost use lib.ListN.{length, getD};
+ghost use lib.Ieee.{Float};
+ghost use Rattle.rules.specs.Table.{after};
+ghost use Rattle.rules.specs.Mesh.{mesh, linksOf, listOf};
+ghost use Rattle.rules.specs.Step.{step};
+ghost use Rattle.rules.specs.Insert.{insertFace};
+ghost use Rattle.rules.specs.Edit.{pokeWork};
+ghost use Rattle.edits.specs.Each.{eachIn};
+
+// The three corners of a part: ring pair i and the new vertex.
+fn part(vs: Links, i: usize, c: u32) -> Links
+    requires { ⌜ i < length (listOf vs) ⌝ }
+    ensures { λ r. ⌜ r ≡ linksOf (getD (listOf vs) i 0 ∷ getD (listOf vs) (after (length (listOf vs)) i) 0 ∷ c ∷ []) ⌝ }
+{
+    let n = lists::size(vs);
+    let mut at = [0u32; RING];
+    at[0] = lists::item(vs, i);
+    at[1] = lists::item(vs, lists::place_after(n, i));
+    at[2] = c;
+    Links { at, len: 3 }
+}
+
+// The parts, ring pair by ring pair: done, or the first refusal.
+fn parts_in(
+    vertices: &mut [VertexRow],
+    arcs: &mut [ArcRow],
+    edges: &mut [EdgeRow],
+    faces: &mut [FaceRow],
+    counters: &mut [u32; 3],
+    past: &mut [ArcRow],
+    pastedges: &mut [EdgeRow],
+    vs: Links,
+    c: u32,
+    mark: u32,
+) -> Answer
+    requires { ⌜ (length (now past) ≡ length (now arcs)) × (length (now pastedges) ≡ length (now edges)) ⌝ }
+    ensures { λ r. ⌜ ((p : List (List Float)) → step (mesh (now (vertices .exit)) p (now (arcs .exit)) (now (edges .exit)) (now (faces .exit)) (now (counters .exit))) r ≡ eachIn (λ i a. insertFace a (getD (listOf vs) i 0 ∷ getD (listOf vs) (after (length (listOf vs)) i) 0 ∷ c ∷ []) mark) (length (listOf vs)) (mesh (now (vertices .entry)) p (now (arcs .entry)) (now (edges .entry)) (now (faces .entry)) (now (counters .entry)))) ⌝ }
+{
+    let n = lists::size(vs);
+    let mut i: usize = 0;
+    while i < n {
+        let told = face::insert_face(
+            vertices,
+            arcs,
+            edges,
+            faces,
+            counters,
+            past,
+            pastedges,
+            part(vs, i, c),
+            mark,
+        );
+        if !answers::accepted(told) {
+            return told;
+        }
+        i += 1;
+    }
+    Answer::Done
+}
+
+pub fn poke_work(
+    vertices: &mut [VertexRow],
+    positions: &mut [PositionRow],
+    arcs: &mut [ArcRow],
+    edges: &mut [EdgeRow],
+    faces: &mut [FaceRow],
+    counters: &mut [u32; 3],
+    past: &mut [ArcRow],
+    pastedges: &mut [EdgeRow],
+    f: u32,
+    position: Position,
+) -> Answer
+    requires { ⌜ (length (now past) ≡ length (now arcs)) × (length (now pastedges) ≡ length (now edges)) ⌝ }
+    ensures { λ r. ⌜ step (mesh (now (vertices .exit)) (now (positions .exit)) (now (arcs .exit)) (now (edges .exit)) (now (faces .exit)) (now (counters .exit))) r ≡ pokeWork (mesh (now (vertices .entry)) (now (positions .entry)) (now (arcs .entry)) (now (edges .entry)) (now (faces .entry)) (now (counters .entry))) f position ⌝ }
+{
+    let vs = checks::rings::vertices_of(arcs, faces, f);
+    let mark = rows::cell3(faces, f, 2);
+    let key = counters[0];
+    edges::face::remove_face(arcs, faces, f);
+    let c = edges::vertex::new_vertex(vertices, positions, counters, position);
+    let told = parts_in(
+        vertices,
+        arcs,
+        edges,
+        faces,
+        counters,
+        past,
+        pastedges,
+        vs,
+        c,
+        mark,
+    );
+    pieces::answering(Answer::Key(key), told)
+}
