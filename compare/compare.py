@@ -1,89 +1,127 @@
-"""Runs random scripts through the library (driver.c linked with the archive of `rt staticlib calls`) and through the oracle, and
-compares every answer, every record and the counts. usage: compare.py DRIVER ORACLE SCRIPTS SEED
-What is document 01's own is worked out from the oracle's text: an accepted edit that leaves an unsound mesh is 8, or 2 where the
-reason is a coordinate that is not finite. Tables are large enough that 7 is not met. The first script that differs is shrunk."""
+"""Runs random scripts through meshdump and through the oracle (the Rust), and compares every answer and every record. The answers that are
+document 01's own are worked out (expect.py). The first script that differs is made as small as can be, and both texts are printed.
+usage: compare.py ORACLE SCRIPTS SEED MESHDUMP...        MESHDUMP may be several words: an emulator, the program"""
 import collections
-import random
-import re
+import itertools
 import subprocess
 import sys
+import tempfile
+
+import expect
+import scripts
+
+KINDS = ["v", "f", "r", "s", "p", "b", "j", "x", "a", "other"]
+ANSWERS = ["ok"] + ["no %d" % n for n in range(2, 9)]
 
 
-def script(rng):
-    n = rng.randint(3, 9)
-    number = lambda: rng.choice([str(rng.randint(-9, 9)), "%.3f" % rng.uniform(-5, 5), "0x%016x" % (rng.randint(0, 1) << 63 | rng.randint(900, 1100) << 52 | rng.getrandbits(52))])
-    point = lambda k=3: " ".join(number() for _ in range(k))
-    lines, rings = ["v " + point() for _ in range(n)], [[0, 1, 2]]
-    vertex, face = lambda: rng.randint(0, n), lambda: rng.randint(0, len(rings))
+class Meshdump:
+    def __init__(self, command):
+        self.command = command
 
-    def border():
-        """The two keys of an arc that often has no face: a face's arc the other way round."""
-        ring = rng.choice(rings)
-        k = rng.randrange(len(ring))
-        return (ring[k], ring[k - 1]) if rng.random() < 0.8 else (vertex(), vertex())
+    def start(self, script):
+        with tempfile.TemporaryFile() as lines:
+            lines.write(script)
+            lines.seek(0)
+            running = subprocess.Popen(self.command, stdin=lines, stdout=subprocess.PIPE, stderr=subprocess.PIPE)
+        running.script = script
+        return running
 
-    for _ in range(rng.randint(4, 25)):
-        kind = rng.choice("ffffffffrsssppbbbjjjxXaaAnc")
-        if kind == "f":
-            keys = [rng.randint(0, n) for _ in range(rng.choice([0, 1, 2, 3, 3, 4]))] if rng.random() < 0.15 else rng.sample(range(n), rng.choice([3, 3, 3, min(4, n), min(5, n)]))
-            lines.append("f %d" % rng.randint(0, 99) + "".join(" %d" % k for k in keys))
-            rings += [keys] if len(keys) > 2 else []
-        elif kind in "rn":
-            lines.append("%s %d" % (kind, face()))
-        elif kind == "s":
-            lines.append("s %d %d %d" % ((face(),) + tuple(rng.sample(rng.choice(rings), 2) if rng.random() < 0.8 else (vertex(), vertex()))))
-        elif kind == "p":
-            lines.append("p %d %s" % (face(), point()))
-            n += 1
-        elif kind == "b":
-            lines.append("b %d %d" % (face(), face()))
-        elif kind == "j":
-            lines.append("j %d %d %d %d" % (border() + border()))
-        elif kind == "c":
-            lines.append("c")
-        elif kind in "xX":
-            lines.append("%s %d %s" % (kind, face(), point(3 if kind == "x" else 4)))
-            n += rng.choice([0, 3])
-        else:
-            lines.append("%s %d %d %s" % ((kind,) + border() + (point(3 if kind == "a" else 4),)))
-            n += rng.choice([0, 2])
-    return lines
+    @staticmethod
+    def printed(running):
+        out, err = running.communicate()
+        if running.returncode or err:
+            out += b"(ended with %d, and said: %s)\n" % (running.returncode, err)
+        return out
+
+    def text(self, script):
+        return self.printed(self.start(script))
 
 
-def printed(command, lines):
-    return subprocess.run(command, input="\n".join(lines) + "\n", capture_output=True, text=True).stdout
+def differs(meshdump, oracle, script):
+    return meshdump.text(script) != expect.expected(oracle, script)
 
 
-def wanted(oracle, lines):
-    text = printed([oracle, "--sound", "--dump-end"], lines)
-    text = re.sub(r"^ok.* unsound: a coordinate.*$", "no 2", text, flags=re.M)
-    return re.sub(r"^ok.* unsound:.*$", "no 8", text, flags=re.M)
+def without(parts, still):
+    """The list without every stretch that isn't needed for it still to be so: halves first, then ever shorter ones."""
+    size = len(parts)
+    while size:
+        at = 0
+        while at < len(parts):
+            fewer = parts[:at] + parts[at + size:]
+            if still(fewer):
+                parts = fewer
+            else:
+                at += size
+        size //= 2
+    return parts
+
+
+def simpler(line, still):
+    """The line with coordinates 0 if it has any, or else with fewer fields, where it still differs."""
+    kind = scripts.kind_of(line)
+    if kind in "vpxa":
+        zeroed = b" ".join(line.split(b" ")[:-3] + [b"0"] * 3)
+        return zeroed if still(zeroed) else line
+    if kind in ("f", "other"):
+        return b" ".join(without(line.split(b" "), lambda fields: still(b" ".join(fields))))
+    return line
+
+
+def smallest(script, still):
+    """A script that still differs, with as few lines as can be, each simple. Where it needs to lack the last newline it stays."""
+    def joined(lines):
+        return b"".join(line + b"\n" for line in lines)
+
+    lines = without(expect.lines_of(script), lambda fewer: still(joined(fewer)))
+    if not still(joined(lines)):
+        return script
+    for k in range(len(lines)):
+        lines[k] = simpler(lines[k], lambda line: still(joined(lines[:k] + [line] + lines[k + 1:])))
+    return joined(lines)
+
+
+def shown(script):
+    """A script's lines, with what can't be seen in them as Python writes it."""
+    lines = (line.decode("latin-1") for line in expect.lines_of(script))
+    return "".join("  %s\n" % (line if line.isprintable() and line.isascii() and line == line.strip() and line else repr(line)) for line in lines)
+
+
+def report(meshdump, oracle, seed, number, script):
+    print("Script %s of seed %s differs. Made small:" % (number, seed))
+    script = smallest(script, lambda fewer: differs(meshdump, oracle, fewer))
+    print(shown(script) + "meshdump prints:\n%sdocument 01 and the oracle:\n%s" % tuple(shown(text) for text in (meshdump.text(script), expect.expected(oracle, script))))
+
+
+def progress(done, all_of_them):
+    if sys.stderr.isatty():
+        print("\r%d of %d scripts" % (done, all_of_them) if done < all_of_them else "\r\033[K", end="", file=sys.stderr, flush=True)
+
+
+def table(answers):
+    rows = [["line"] + ANSWERS] + [[kind] + [str(answers[kind, answer]) for answer in ANSWERS] for kind in KINDS]
+    return "\n".join("  %-6s" % row[0] + "".join("%9s" % cell for cell in row[1:]) for row in rows)
 
 
 def main():
-    driver, oracle, scripts, seed = sys.argv[1], sys.argv[2], int(sys.argv[3]), int(sys.argv[4])
-    rng, answers, calls = random.Random(seed), collections.Counter(), 0
-    for k in range(scripts):
-        lines = script(rng)
-        command = [driver, "256", "512", "256", str(rng.choice([0, 0, 3]))]
-        ours, theirs = printed(command, lines), wanted(oracle, lines)
-        for line, answer in zip(lines, ours.split("\n")):
-            answers[line[0] + " " + (answer if answer.startswith("no") else "ok")] += 1
-        calls += len(lines)
-        if ours != theirs:
-            while True:
-                for i in range(len(lines)):
-                    fewer = lines[:i] + lines[i + 1:]
-                    if printed(command, fewer) != wanted(oracle, fewer):
-                        lines = fewer
-                        break
-                else:
-                    break
-            print("differs:\n" + "\n".join(lines) + "\n-- library\n" + printed(command, lines) + "-- oracle\n" + wanted(oracle, lines))
-            sys.exit(1)
-    print("%d scripts, %d calls, none different" % (scripts, calls))
-    for kind in sorted(answers):
-        print("  %-6s %d" % (kind, answers[kind]))
+    oracle, count, seed = expect.Oracle(sys.argv[1]), int(sys.argv[2]), sys.argv[3]
+    meshdump, answers, calls, before = Meshdump(sys.argv[4:]), collections.Counter(), 0, None
+    for number in itertools.count():
+        # While meshdump runs one script, the next is made.
+        made = scripts.random_script(seed, number, oracle) if number < count else None
+        if before and meshdump.printed(before[0]) != before[1]:
+            report(meshdump, oracle, seed, number - 1, before[0].script)
+            return 1
+        progress(number, count)
+        if not made:
+            break
+        script, run = made
+        before = meshdump.start(script), run.expected()
+        calls += len(run.lines)
+        answers.update((scripts.kind_of(line), answer if answer.startswith("no") else "ok") for line, answer in zip(run.lines, run.answers))
+    print("%d scripts, %d calls: every answer and every record the same" % (count, calls))
+    print(table(answers))
+    print("  other: lines that can't be read")
+    return 0
 
 
-main()
+sys.exit(main())
