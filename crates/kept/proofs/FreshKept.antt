@@ -41,7 +41,7 @@ use Rattle.kept.proofs.Fresh.{Bordered, bordered}
 use Rattle.kept.proofs.Lists.{map-at}
 use Rattle.kept.proofs.Passed.{passed, keys-perimeter, keys-fresh}
 use Rattle.kept.specs.Reaches.{NoArcAt}
-use Rattle.kept.proofs.Eight.{answer-zero, never-8, not8-insertChecks, not8-key}
+use Rattle.kept.proofs.Eight.{answer-zero, never-8}
 
 -- ---- where all arcs of the perimeter and their opposites are new
 
@@ -173,7 +173,7 @@ module _ (m : Mesh) (one two : Room) (keys : List ℕ) (mark : ℕ) (k : ThreeCo
   pub never-8-fresh : told (faceInsert m one two keys mark .answer) .number ≡ 8 → ⊥
   unfolding faceInsert checks work insertWork given need
   never-8-fresh =
-      never-8 m (FaceInsert mark) keys one two (not8-insertChecks m keys (byKeys m keys)) (not8-key _)
+      never-8 m (FaceInsert mark) keys one two
       (λ b.
       let s = facts m (b .was-sound) in
       let l = leb→le (length keys) ringLimit (b .numbers-given) in

@@ -3,6 +3,9 @@ pub mod Free
 pub mod Counted
 pub mod Rings
 pub mod Spared
+pub mod Refusals
+pub mod Answers
+pub mod InsertAnswers
 pub mod Eight
 pub mod Vertex
 pub mod Base
@@ -42,4 +45,9 @@ pub mod Fresh
 pub mod FreshKept
 pub mod Never8
 pub mod NeedSuffices
+pub mod Steps
+pub mod CountersUp
+pub mod NeverTwice
+pub mod RemovedKey
+pub mod Returned
 pub mod Witness

@@ -33,7 +33,7 @@ use Rattle.kept.proofs.Interior.{pair-arc, pair-found}
 use Rattle.kept.proofs.Insert.{faces-took, insert-whole, withEdges, edges-up, perimeter-up, room-up, resultUp, Leaves, leaves, all-but-rings}
 use Rattle.kept.proofs.Lists.{lists-leave}
 use Rattle.kept.proofs.Passed.{passed, pair-faceless, keys-perimeter}
-use Rattle.kept.proofs.Eight.{answer-zero, never-8, not8-insertChecks, not8-key}
+use Rattle.kept.proofs.Eight.{answer-zero, never-8}
 
 -- no arc of a perimeter holds g; the checks of an insert see to that for every g
 abbrev pub NotOn : Mesh → List ℕ → ℕ → Type 0
@@ -258,7 +258,7 @@ accepted-insert-reaches m one two keys mark k h =
 pub eight-breaks-a-ring : (m : Mesh) (one two : Room) (keys : List ℕ) (mark : ℕ) → ThreeCounters m → ((g : ℕ) → IsFace m g → RingFacts (putFace m (byKeys m keys) (listsOf m (byKeys m keys)) mark) g) → told (faceInsert m one two keys mark .answer) .number ≡ 8 → ⊥
 unfolding faceInsert checks work insertWork given need
 eight-breaks-a-ring m one two keys mark k rings =
-    never-8 m (FaceInsert mark) keys one two (not8-insertChecks m keys (byKeys m keys)) (not8-key _)
+    never-8 m (FaceInsert mark) keys one two
     (λ b.
     let s = but-rings m (facts m (b .was-sound)) in
     let l = leb→le (length keys) ringLimit (b .numbers-given) in

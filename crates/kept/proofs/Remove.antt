@@ -34,7 +34,7 @@ use Rattle.kept.specs.Reaches.{Spared, KeepsEnds}
 use Rattle.kept.proofs.Rings.{ring-stays}
 use Rattle.kept.proofs.Spared.{stays-spared}
 use Rattle.kept.proofs.Find.{find-back}
-use Rattle.kept.proofs.Eight.{never-8, not8-known, not8-mark}
+use Rattle.kept.proofs.Eight.{never-8}
 use Rattle.rules.proofs.Counts.{bit, count-set}
 
 -- ---- the ring's list and the arcs that hold the face
@@ -230,5 +230,5 @@ found-face l h e = rw (eq-eqb l 0 e) at h
 pub never-8-remove : (m : Mesh) (one two : Room) (f : ℕ) → told (faceRemove m one two f .answer) .number ≡ 8 → ⊥
 unfolding faceRemove checks work removeWork
 never-8-remove m one two f =
-    never-8 m (FaceRemove f) [] one two (not8-known _) (not8-mark _)
+    never-8 m (FaceRemove f) [] one two
     (λ b. sound-from (remove m (findFace m f)) (remove-kept m (facts m (b .was-sound)) (findFace m f) (find-back (m .faces) f (found-face (findFace m f) (b .checks-passed)) .0)))

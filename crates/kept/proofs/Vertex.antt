@@ -27,7 +27,7 @@ use Rattle.kept.proofs.Cells.{putRow-rows, row-here, row-other}
 use Rattle.kept.proofs.Free.{took, new-there, old-differs, old-there, old-cell, there-cases, took-zero, took-keys-differ, took-keys-below}
 use Rattle.kept.proofs.Counted.{met, key-back, one-up-some, counted-here, counted-other}
 use Rattle.kept.proofs.Rings.{ring-stays}
-use Rattle.kept.proofs.Eight.{never-8, not8-done, not8-key}
+use Rattle.kept.proofs.Eight.{never-8}
 
 module _ (m : Mesh) (p : Position) (r : RoomForVertex m) (s : SoundFacts m) where
   -- the new row, with its key and no leading arc; every other vertex keeps its row
@@ -139,4 +139,4 @@ vertex-room m p h = let w = met m (needs 1 0 0 0) h in record { a-row = w .verte
 pub never-8-vertex : (m : Mesh) (one two : Room) (p : Position) → ThreeCounters m → told (vertexInsert m one two p .answer) .number ≡ 8 → ⊥
 unfolding vertexInsert checks work given
 never-8-vertex m one two p k =
-    never-8 m (VertexInsert p) [] one two not8-done (not8-key _) (λ b. sound-from (newVertex m p) (vertex-kept m p (vertex-room m p (b .need-met)) (facts m (b .was-sound)) k (b .numbers-given)))
+    never-8 m (VertexInsert p) [] one two (λ b. sound-from (newVertex m p) (vertex-kept m p (vertex-room m p (b .need-met)) (facts m (b .was-sound)) k (b .numbers-given)))

@@ -4,3 +4,5 @@ pub mod Perimeter
 pub mod Reaches
 pub mod Makers
 pub mod Suffices
+pub mod Exactly
+pub mod Counters
