@@ -1,0 +1,5 @@
+pub mod Cutting
+pub mod Used
+pub mod Answering
+pub mod Passing
+pub mod Inputs

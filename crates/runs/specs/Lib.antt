@@ -1,0 +1,4 @@
+pub mod Run
+pub mod Gather
+pub mod Feed
+pub mod Whole
