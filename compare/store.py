@@ -5,7 +5,7 @@ A case is a script with what must be printed for it. Its lines, by their first b
 
   #  the case's name
   >  a line of the script; then, behind <, its answer
-  =  the script's end; then, behind <, all records and the counts
+  =  a part of what is printed at the script's end, by its first letter; then, behind <, its lines
   .  the case's end
 
 Answers and records are the oracle's (the Rust), but for the answers that are document 01's own: expect.py works those out. The scripts are
@@ -71,11 +71,13 @@ def asked(oracle, lines):
 
 
 def case(name, run):
-    records = run.expected().splitlines()[len(run.lines):]
+    last = run.expected().splitlines()[len(run.lines):]
     lines = [b"# " + name.encode()]
     for line, answer in zip(run.lines, run.answers):
         lines += [b">" + line, b"<" + answer.encode()]
-    return b"".join(line + b"\n" for line in lines + [b"="] + [b"<" + record for record in records] + [b"."])
+    for letter in (b"V", b"A", b"E", b"F", b"C", b"e"):
+        lines += [b"=" + letter] + [b"<" + line for line in last if line.startswith(letter)]
+    return b"".join(line + b"\n" for line in lines + [b"."])
 
 
 def random_cases(oracle, reached):

@@ -1,34 +1,27 @@
--- The pairs of a perimeter: past its end there is no arc; the tests that the loops make at a pair; and the list of corners.
-use Prim.Native.Nat.{ℕ, zero, suc, _+_, _≤_, _<_}
+-- The pairs of a perimeter: the arc of a pair by the list of them; the tests that the loops make at a pair; and the list of corners.
+use Prim.Native.Nat.{ℕ, _≤_}
 use native.Mathlib.Omega.{arith}
-use mathlib.Core.Path.{_≡_, refl, ap, sym, _∙_}
+use mathlib.Core.Path.{_≡_, refl, ap, _∙_}
 use mathlib.Core.Bool.{Bool, true, false, not, _&&_, _||_, cond}
 use mathlib.Core.List.{List, map}
-use lib.ListN.{length, getD, length-map, List·getD-eq-default}
+use lib.ListN.{length, getD, length-map}
 use lib.Dec.{eqb}
 use Rattle.rules.specs.declared.Links.{Links}
 use Rattle.rules.specs.declared.Edit.{Edit}
 use Rattle.rules.specs.declared.Edit.the-variants.{FaceInsert}
 use borrow.Author.Tests.{eq-eqb, ne-eqb, leb-true}
-use native.Mathlib.Decide.{ℕ-discrete}
-use Rattle.rules.specs.Table.{cell, has, after}
-use Rattle.rules.specs.Mesh.{Mesh, dest, next, face, arcBetween, findKey, linksOf, listOf}
+use Rattle.rules.specs.Table.{Table, cell, has, after}
+use Rattle.rules.specs.Mesh.{Mesh, dest, next, face, findKey, linksOf, listOf}
 use Rattle.rules.specs.Insert.{arcAt, hasFace, leadsBack}
 use Rattle.rules.specs.Edit.{corners}
 use Rattle.rules.specs.Call.{given, byKeys}
 use Rattle.rules.proofs.Places.{list-back}
+use Rattle.pairs.specs.Pairs.{arcsOf}
+use Rattle.pairs.proofs.Listed.{arc-of-pair, arcs-past, arcs-held}
 
-pub arc-past : (m : Mesh) (per : List ℕ) (i : ℕ) → length per ≤ i → arcAt m per i ≡ 0
-unfolding arcAt arcBetween
-arc-past m per i h = rw (List·getD-eq-default per 0 h)
-
--- the place after one on a ring is on it
-pub after-on : (n i j : ℕ) → i < n → j ≡ after n i → j < n
-after-on n i j h e = go (ℕ-discrete (i + 1) n)
-  where
-    go : Dec (i + 1 ≡ n) → j < n
-    go (yes q) = omega (arith, rw (eq-eqb _ _ q) at e)
-    go (no nq) = omega (arith, rw (ne-eqb _ _ nq) at e)
+-- the arc of a pair, by the list of them
+pub arc-listed : (m : Mesh) (per : List ℕ) (xs : Links) (i x : ℕ) → listOf xs ≡ arcsOf (m .arcs) per → x ≡ getD (listOf xs) i 0 → x ≡ arcAt m per i
+arc-listed m per xs i x e h = h ∙ ap (λ (l : List ℕ). getD l i 0) e ∙ arc-of-pair m per i
 
 -- ---- what is asked at pair i
 
@@ -45,16 +38,11 @@ pub face-of-arc : (m : Mesh) (per : List ℕ) (i x : ℕ) (r : Bool) → x ≡ a
 unfolding hasFace
 face-of-arc m per i x r e h = rw (← e) h
 
--- the arc of pair i of four corners
-pub arc-of-four : (m : Mesh) (four : List ℕ) (i j x : ℕ) → length four ≡ 4 → j ≡ after 4 i → x ≡ arcBetween (m .arcs) (getD four i 0) (getD four j 0) → x ≡ arcAt m four i
-unfolding arcAt
-arc-of-four m four i j x n e h = h ∙ rw (n, e)
-
 -- whether it leads back: one law for each way out of the code. x is its arc, w its follower and y its next
 module _ (m : Mesh) (per : List ℕ) (i : ℕ) where
   pub back-past : length per ≤ i → false ≡ leadsBack m per i
   unfolding leadsBack
-  back-past h = rw (arc-past m per i h)
+  back-past h = rw (← arc-of-pair m per i, arcs-past (m .arcs) per i h)
 
   module _ {x : ℕ} (ex : x ≡ arcAt m per i) where
     pub back-none : x ≡ 0 → false ≡ leadsBack m per i
@@ -86,6 +74,12 @@ corners-size m x y = refl
 
 pub corners-back : (m : Mesh) (x y : ℕ) (l : Links) → l ≡ linksOf (corners m x y) → listOf l ≡ corners m x y
 corners-back m x y l e = ap listOf e ∙ list-back (corners m x y) (omega (arith, corners-size m x y))
+
+-- the arcs of four corners' pairs, as the code holds them
+pub four-held : (arcs : Table) (four : List ℕ) (per xs : Links) → length four ≡ 4 → per ≡ linksOf four → xs ≡ linksOf (arcsOf arcs (listOf per)) → listOf xs ≡ arcsOf arcs four
+four-held arcs four per xs n ep ex =
+    let back : listOf per ≡ four = ap listOf ep ∙ list-back four (omega arith) in
+    arcs-held arcs four xs (omega arith) (ex ∙ ap (λ (l : List ℕ). linksOf (arcsOf arcs l)) back)
 
 -- what the caller gave is checked first, so a face insert has at most 64 keys
 pub given-few : (e : Edit) (keys : List ℕ) → given e keys ≡ true → (mark : ℕ) → e ≡ FaceInsert mark → length keys ≤ 64

@@ -57,11 +57,10 @@ pub fn corners_faced(arcs: &[ArcRow], four: [u32; 4]) -> bool
     ensures { λ r. ⌜ ((vs : Table) (ps : List (List Float)) (es fs : Table) (ks : List ℕ) → r ≡ someBelow (hasFace (mesh vs ps (now (arcs .entry)) es fs ks) four) 4) ⌝ }
 {
     known_four(four);
+    let xs = pairs::perimeter_arcs(arcs, corner_list(four));
     let mut i: usize = 0;
     while i < 4 {
-        let j = lists::place_after(4, i);
-        let x = rows::find_arc(arcs, four[i], four[j]);
-        if insert::faced(arcs, x) {
+        if insert::has_face(arcs, xs, i) {
             return true;
         }
         i += 1;

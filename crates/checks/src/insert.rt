@@ -17,19 +17,7 @@ ghost use Rattle.rules.specs.Table.{Table, cell};
 ghost use Rattle.rules.specs.Mesh.{mesh, listOf};
 ghost use Rattle.rules.specs.Insert as Insert;
 ghost use Rattle.rules.specs.Call.{pairsWithout};
-
-// The arc of pair i, or none.
-pub fn arc_at(arcs: &[ArcRow], per: Links, i: usize) -> u32
-    ensures { λ r. ⌜ ((vs : Table) (ps : List (List Float)) (es fs : Table) (ks : List ℕ) → r ≡ Insert.arcAt (mesh vs ps (now (arcs .entry)) es fs ks) (listOf per) i) ⌝ }
-{
-    let n = lists::size(per);
-    if i >= n {
-        return 0;
-    }
-    let a = lists::item(per, i);
-    let b = lists::item(per, lists::place_after(n, i));
-    rows::find_arc(arcs, a, b)
-}
+ghost use Rattle.pairs.specs.Pairs.{arcsOf};
 
 // Whether x is an arc, and has a face.
 pub fn faced(arcs: &[ArcRow], x: u32) -> bool
@@ -41,26 +29,26 @@ pub fn faced(arcs: &[ArcRow], x: u32) -> bool
     rows::cell6(arcs, x, 4) != 0
 }
 
-// An existing arc with a face.
-pub fn has_face(arcs: &[ArcRow], per: Links, i: usize) -> bool
-    ensures { λ r. ⌜ ((vs : Table) (ps : List (List Float)) (es fs : Table) (ks : List ℕ) → r ≡ Insert.hasFace (mesh vs ps (now (arcs .entry)) es fs ks) (listOf per) i) ⌝ }
+// An existing arc with a face, by the arcs of the perimeter's pairs.
+pub fn has_face(arcs: &[ArcRow], xs: Links, i: usize) -> bool
+    ensures { λ r. ⌜ ((vs : Table) (ps : List (List Float)) (es fs : Table) (ks per : List ℕ) → listOf xs ≡ arcsOf (now (arcs .entry)) per → r ≡ Insert.hasFace (mesh vs ps (now (arcs .entry)) es fs ks) per i) ⌝ }
 {
-    faced(arcs, arc_at(arcs, per, i))
+    faced(arcs, lists::item(xs, i))
 }
 
 // An existing arc whose follower is absent, and whose next leads to a vertex of the perimeter.
-pub fn leads_back(arcs: &[ArcRow], per: Links, i: usize) -> bool
-    ensures { λ r. ⌜ ((vs : Table) (ps : List (List Float)) (es fs : Table) (ks : List ℕ) → r ≡ Insert.leadsBack (mesh vs ps (now (arcs .entry)) es fs ks) (listOf per) i) ⌝ }
+pub fn leads_back(arcs: &[ArcRow], xs: Links, per: Links, i: usize) -> bool
+    ensures { λ r. ⌜ ((vs : Table) (ps : List (List Float)) (es fs : Table) (ks : List ℕ) → listOf xs ≡ arcsOf (now (arcs .entry)) (listOf per) → r ≡ Insert.leadsBack (mesh vs ps (now (arcs .entry)) es fs ks) (listOf per) i) ⌝ }
 {
     let n = lists::size(per);
     if i >= n {
         return false;
     }
-    let x = arc_at(arcs, per, i);
+    let x = lists::item(xs, i);
     if x == 0 {
         return false;
     }
-    if arc_at(arcs, per, lists::place_after(n, i)) != 0 {
+    if lists::item(xs, lists::place_after(n, i)) != 0 {
         return false;
     }
     let y = rows::cell6(arcs, x, 2);
@@ -75,12 +63,14 @@ pub fn conflict(arcs: &[ArcRow], per: Links) -> bool
     ensures { λ r. ⌜ ((vs : Table) (ps : List (List Float)) (es fs : Table) (ks : List ℕ) → r ≡ Insert.conflict (mesh vs ps (now (arcs .entry)) es fs ks) (listOf per)) ⌝ }
 {
     let n = lists::size(per);
+    lists::known_few(per);
+    let xs = pairs::perimeter_arcs(arcs, per);
     let mut i: usize = 0;
     while i < n {
-        if has_face(arcs, per, i) {
+        if has_face(arcs, xs, i) {
             return true;
         }
-        if leads_back(arcs, per, i) {
+        if leads_back(arcs, xs, per, i) {
             return true;
         }
         i += 1;
@@ -123,10 +113,12 @@ pub fn pairs_without(arcs: &[ArcRow], per: Links) -> usize
     ensures { λ r. ⌜ ((vs : Table) (ps : List (List Float)) (es fs : Table) (ks : List ℕ) → r ≡ pairsWithout (mesh vs ps (now (arcs .entry)) es fs ks) (listOf per)) ⌝ }
 {
     let n = lists::size(per);
+    lists::known_few(per);
+    let xs = pairs::perimeter_arcs(arcs, per);
     let mut sum: usize = 0;
     let mut i: usize = 0;
     while i < n {
-        sum += one_if_none(arc_at(arcs, per, i));
+        sum += one_if_none(lists::item(xs, i));
         i += 1;
     }
     sum

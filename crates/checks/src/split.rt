@@ -21,6 +21,7 @@ ghost use Rattle.rules.specs.Table.{Table};
 ghost use Rattle.rules.specs.Mesh.{mesh, face, linksOf, listOf};
 ghost use Rattle.rules.specs.Insert.{arcAt, hasFace};
 ghost use Rattle.rules.specs.Edit as Edit;
+ghost use Rattle.pairs.specs.Pairs.{arcsOf};
 
 // ---- a part of a ring
 
@@ -111,14 +112,14 @@ pub fn half(arcs: &[ArcRow], faces: &[FaceRow], f: u32, s: u32, d: u32) -> Links
 
 // ---- the checks
 
-// An arc of pair i that another face than f holds.
-fn other_holds(arcs: &[ArcRow], f: u32, per: Links, i: usize) -> bool
-    ensures { λ r. ⌜ ((vs : Table) (ps : List (List Float)) (es fs : Table) (ks : List ℕ) → r ≡ (hasFace (mesh vs ps (now (arcs .entry)) es fs ks) (listOf per) i && not (eqb (face (mesh vs ps (now (arcs .entry)) es fs ks) (arcAt (mesh vs ps (now (arcs .entry)) es fs ks) (listOf per) i)) f))) ⌝ }
+// An arc of pair i that another face than f holds, by the arcs of the pairs.
+fn other_holds(arcs: &[ArcRow], f: u32, xs: Links, i: usize) -> bool
+    ensures { λ r. ⌜ ((vs : Table) (ps : List (List Float)) (es fs : Table) (ks per : List ℕ) → listOf xs ≡ arcsOf (now (arcs .entry)) per → r ≡ (hasFace (mesh vs ps (now (arcs .entry)) es fs ks) per i && not (eqb (face (mesh vs ps (now (arcs .entry)) es fs ks) (arcAt (mesh vs ps (now (arcs .entry)) es fs ks) per i)) f))) ⌝ }
 {
-    if !insert::has_face(arcs, per, i) {
+    if !insert::has_face(arcs, xs, i) {
         return false;
     }
-    rows::cell6(arcs, insert::arc_at(arcs, per, i), 4) != f
+    rows::cell6(arcs, lists::item(xs, i), 4) != f
 }
 
 // Whether some pair has one.
@@ -126,9 +127,11 @@ pub fn held_by_other(arcs: &[ArcRow], f: u32, per: Links) -> bool
     ensures { λ r. ⌜ ((vs : Table) (ps : List (List Float)) (es fs : Table) (ks : List ℕ) → r ≡ Edit.heldByOther (mesh vs ps (now (arcs .entry)) es fs ks) f (listOf per)) ⌝ }
 {
     let n = lists::size(per);
+    lists::known_few(per);
+    let xs = pairs::perimeter_arcs(arcs, per);
     let mut i: usize = 0;
     while i < n {
-        if other_holds(arcs, f, per, i) {
+        if other_holds(arcs, f, xs, i) {
             return true;
         }
         i += 1;

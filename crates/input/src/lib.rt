@@ -84,7 +84,7 @@ fn turn(
 
 // The whole input. A proved loop has to end, and nothing says that an input does, so the turns are counted down from a number that no
 // run uses up. The answer is whether all was written.
-pub fn run_input(
+fn run_input(
     vertices: &mut Vertices,
     positions: &mut Positions,
     arcs: &mut Arcs,
@@ -138,6 +138,49 @@ pub fn run_input(
         turns -= 1;
     }
     true
+}
+
+// A whole script on the lent mesh, with working room of its own. The answer is whether all was written.
+pub fn run_script(
+    vertices: &mut Vertices,
+    positions: &mut Positions,
+    arcs: &mut Arcs,
+    edges: &mut Edges,
+    faces: &mut Faces,
+    counters: &mut [u32; 3],
+    out: &mut [u8; ANSWERS],
+) -> bool {
+    let mut v1 = [[0u32; 2]; 64];
+    let mut p1 = [[0.0f64; 3]; 64];
+    let mut a1 = [[0u32; 6]; 256];
+    let mut e1 = [[0u32; 3]; 128];
+    let mut f1 = [[0u32; 3]; 64];
+    let mut v2 = [[0u32; 2]; 64];
+    let mut p2 = [[0.0f64; 3]; 64];
+    let mut a2 = [[0u32; 6]; 256];
+    let mut e2 = [[0u32; 3]; 128];
+    let mut f2 = [[0u32; 3]; 64];
+    let mut line = [0u8; HELD];
+    run_input(
+        vertices,
+        positions,
+        arcs,
+        edges,
+        faces,
+        counters,
+        &mut v1,
+        &mut p1,
+        &mut a1,
+        &mut e1,
+        &mut f1,
+        &mut v2,
+        &mut p2,
+        &mut a2,
+        &mut e2,
+        &mut f2,
+        &mut line,
+        out,
+    )
 }
 
 // The last line, `end` with the counts of vertices, edges, faces.

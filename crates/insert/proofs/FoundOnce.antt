@@ -1,62 +1,21 @@
 -- The interior and the exterior of an insert, written by the perimeter's arcs as they were found once, are those of document 01's rule 5:
 -- no link and no face moves an arc's ends.
-use Prim.Native.Nat.{ℕ, zero, suc, _+_, _-_, _≤_, _<_}
-use native.Mathlib.Nat.{not-suc-le-zero}
+use Prim.Native.Nat.{ℕ, zero, suc, _+_, _-_, _≤_}
 use native.Mathlib.Omega.{arith}
-use native.Mathlib.Decide.{ℕ-discrete}
 use mathlib.Core.Path.{_≡_, refl, ap, sym, _∙_}
 use mathlib.Core.Bool.{Bool, true, false, cond, _&&_}
 use mathlib.Core.List.{List, [], _∷_, _++_, map}
-use lib.ListN.{length, getD, set, length-set, length-append, List·getD-append}
+use lib.ListN.{length, getD, set, length-set}
 use lib.Seq.{getD-set-other}
 use lib.Dec.{eqb}
-use borrow.Author.Tests.{eqb-false}
 use Rattle.rules.specs.Table.{Table, cell, put, firstRow, upTo, after, linkInto, orElse, freeRow}
 use Rattle.rules.specs.Mesh.{Mesh, with-arcs, leading, oppositeOf, joins, arcBetween}
 use Rattle.rules.specs.Link.{connect, setFace, turnIn, outgoing, arcCount}
 use Rattle.rules.specs.Insert.{arcAt, interior, exterior, exteriorAt, facelessIn, listsOf, edgesIn, newFace, putFace}
 use Rattle.rules.proofs.Walks.{walk-none}
-use Rattle.insert.specs.Perimeter.{listBelow, pairArc, arcsOf, listFrom, listsFrom, interiorTo, interiorBy, exteriorTo, exteriorBy}
-
--- ---- a list made place by place
-
-pub below-length : (f : ℕ → ℕ) (n : ℕ) → length (listBelow f n) ≡ n
-unfolding listBelow upTo
-below-length f zero = refl
-below-length f (suc n) = omega (arith, below-length f n, length-append (listBelow f n) (f n ∷ []))
-
-at-last : (l : List ℕ) (x : ℕ) → getD (l ++ (x ∷ [])) (length l) 0 ≡ x
-at-last [] x = refl
-at-last (y ∷ ys) x = at-last ys x
-
-pub below-at : (f : ℕ → ℕ) (n i : ℕ) → i < n → getD (listBelow f n) i 0 ≡ f i
-unfolding listBelow upTo
-below-at f zero i l = absurd (not-suc-le-zero l)
-below-at f (suc n) i l = go (below-at f n i) (ℕ-discrete i n)
-  where
-    go : (i < n → getD (listBelow f n) i 0 ≡ f i) → Dec (i ≡ n) → getD (listBelow f n ++ (f n ∷ [])) i 0 ≡ f i
-    go ih (yes e) =
-        let k : i ≡ length (listBelow f n) = e ∙ sym (below-length f n) in
-        ap (λ (j : ℕ). getD (listBelow f n ++ (f n ∷ [])) j 0) k ∙ at-last (listBelow f n) (f n) ∙ ap f (sym e)
-    go ih (no ne) = List·getD-append (listBelow f n) (f n ∷ []) 0 i (omega (arith, below-length f n)) ∙ ih (omega arith)
-
-pub arcs-length : (arcs : Table) (per : List ℕ) → length (arcsOf arcs per) ≡ length per
-unfolding arcsOf
-arcs-length arcs per = below-length (pairArc arcs per) (length per)
-
-pub arcs-at : (arcs : Table) (per : List ℕ) (i : ℕ) → i < length per → getD (arcsOf arcs per) i 0 ≡ pairArc arcs per i
-unfolding arcsOf
-arcs-at arcs per i l = below-at (pairArc arcs per) (length per) i l
-
--- the place after one on a ring is on it
-pub after-below : (n i : ℕ) → i < n → after n i < n
-after-below n i l = go (eqb (i + 1) n) refl
-  where
-    go : (b : Bool) → eqb (i + 1) n ≡ b → cond b 0 (i + 1) < n
-    go true e = omega arith
-    go false e =
-        let ne : i + 1 ≡ n → ⊥ = eqb-false (i + 1) n e in
-        omega arith
+use Rattle.pairs.specs.Pairs.{listBelow, pairArc, arcsOf}
+use Rattle.pairs.proofs.Listed.{arcs-length, pair-listed}
+use Rattle.insert.specs.Perimeter.{listFrom, listsFrom, interiorTo, interiorBy, exteriorTo, exteriorBy}
 
 -- ---- an arc's ends
 
@@ -127,47 +86,47 @@ ends-exterior edges out back x t =
 -- ---- a loop over the perimeter that writes arcs, by the arcs found once
 
 -- what such a loop does at pair i, on the mesh and on the arc table
-module _ (m : Mesh) (per : List ℕ) (onMesh : ℕ → Mesh → Mesh) (onArcs : ℕ → Table → Table)
-    (same : (i : ℕ) (t : Table) → i < length per → SameEnds t (m .arcs) → onMesh i (with-arcs m t) ≡ with-arcs m (onArcs i t))
+module _ (m : Mesh) (onMesh : ℕ → Mesh → Mesh) (onArcs : ℕ → Table → Table)
+    (same : (i : ℕ) (t : Table) → SameEnds t (m .arcs) → onMesh i (with-arcs m t) ≡ with-arcs m (onArcs i t))
     (ends : (i : ℕ) (t : Table) → SameEnds (onArcs i t) t) where
   loop-ends : (k : ℕ) → SameEnds (upTo onArcs k (m .arcs)) (m .arcs)
   unfolding upTo
   loop-ends zero = ends-refl (m .arcs)
   loop-ends (suc k) = ends-trans (onArcs k (upTo onArcs k (m .arcs))) (upTo onArcs k (m .arcs)) (m .arcs) (ends k (upTo onArcs k (m .arcs))) (loop-ends k)
 
-  loop-arcs : (k : ℕ) → k ≤ length per → upTo onMesh k m ≡ with-arcs m (upTo onArcs k (m .arcs))
+  loop-arcs : (k : ℕ) → upTo onMesh k m ≡ with-arcs m (upTo onArcs k (m .arcs))
   unfolding upTo
-  loop-arcs zero l = refl
-  loop-arcs (suc k) l = ap (onMesh k) (loop-arcs k (omega arith)) ∙ same k (upTo onArcs k (m .arcs)) l (loop-ends k)
+  loop-arcs zero = refl
+  loop-arcs (suc k) = ap (onMesh k) (loop-arcs k) ∙ same k (upTo onArcs k (m .arcs)) (loop-ends k)
 
 -- the arc found once is the arc of the pair
-found-once : (m : Mesh) (per : List ℕ) (i : ℕ) (t : Table) → i < length per → SameEnds t (m .arcs) → pairArc t per i ≡ getD (arcsOf (m .arcs) per) i 0
-found-once m per i t l s = pair-ends t (m .arcs) per i s ∙ sym (arcs-at (m .arcs) per i l)
+found-once : (m : Mesh) (per : List ℕ) (i : ℕ) (t : Table) → SameEnds t (m .arcs) → pairArc t per i ≡ getD (arcsOf (m .arcs) per) i 0
+found-once m per i t s = pair-ends t (m .arcs) per i s ∙ sym (pair-listed (m .arcs) per i)
 
 pub interior-by : (m : Mesh) (per : List ℕ) (f : ℕ) → interior per f m ≡ with-arcs m (interiorBy (arcsOf (m .arcs) per) f (m .arcs))
 unfolding interior interiorBy interiorTo arcAt pairArc connect setFace
 interior-by m per f =
     rw (arcs-length (m .arcs) per)
-    (loop-arcs m per (λ i a. setFace (connect a (arcAt a per i) (arcAt a per (after (length per) i))) (arcAt a per i) f)
+    (loop-arcs m (λ i a. setFace (connect a (arcAt a per i) (arcAt a per (after (length per) i))) (arcAt a per i) f)
     (λ i u. interiorTo (getD xs i 0) (getD xs (after (length per) i) 0) f u)
-    at-pair (λ i t. ends-interior (getD xs i 0) (getD xs (after (length per) i) 0) f t) (length per) (omega arith))
+    at-pair (λ i t. ends-interior (getD xs i 0) (getD xs (after (length per) i) 0) f t) (length per))
   where
     xs : List ℕ
     xs = arcsOf (m .arcs) per
 
-    at-pair : (i : ℕ) (t : Table) → i < length per → SameEnds t (m .arcs) → setFace (connect (with-arcs m t) (arcAt (with-arcs m t) per i) (arcAt (with-arcs m t) per (after (length per) i))) (arcAt (with-arcs m t) per i) f ≡ with-arcs m (interiorTo (getD xs i 0) (getD xs (after (length per) i) 0) f t)
-    at-pair i t l s =
-        let x = found-once m per i t l s in
-        let y = found-once m per (after (length per) i) t (after-below (length per) i l) s in
+    at-pair : (i : ℕ) (t : Table) → SameEnds t (m .arcs) → setFace (connect (with-arcs m t) (arcAt (with-arcs m t) per i) (arcAt (with-arcs m t) per (after (length per) i))) (arcAt (with-arcs m t) per i) f ≡ with-arcs m (interiorTo (getD xs i 0) (getD xs (after (length per) i) 0) f t)
+    at-pair i t s =
+        let x = found-once m per i t s in
+        let y = found-once m per (after (length per) i) t s in
         λ j. with-arcs m (interiorTo (x j) (y j) f t)
 
 pub exterior-by : (m : Mesh) (per : List ℕ) (lists : List (List ℕ)) → exterior per lists m ≡ with-arcs m (exteriorBy (m .edges) lists (arcsOf (m .arcs) per) (m .arcs))
 unfolding exterior exteriorAt exteriorBy exteriorTo arcAt pairArc connect
 exterior-by m per lists =
     rw (arcs-length (m .arcs) per)
-    (loop-arcs m per (exteriorAt per lists)
+    (loop-arcs m (exteriorAt per lists)
     (λ i u. exteriorTo (m .edges) (getD lists i []) (getD lists (after (length per) i) []) (getD xs i 0) u)
-    at-pair (λ i t. ends-exterior (m .edges) (getD lists i []) (getD lists (after (length per) i) []) (getD xs i 0) t) (length per) (omega arith))
+    at-pair (λ i t. ends-exterior (m .edges) (getD lists i []) (getD lists (after (length per) i) []) (getD xs i 0) t) (length per))
   where
     xs : List ℕ
     xs = arcsOf (m .arcs) per
@@ -176,14 +135,14 @@ exterior-by m per lists =
     with-cond true t u = refl
     with-cond false t u = refl
 
-    at-pair : (i : ℕ) (t : Table) → i < length per → SameEnds t (m .arcs) → exteriorAt per lists i (with-arcs m t) ≡ with-arcs m (exteriorTo (m .edges) (getD lists i []) (getD lists (after (length per) i) []) (getD xs i 0) t)
-    at-pair i t l s =
+    at-pair : (i : ℕ) (t : Table) → SameEnds t (m .arcs) → exteriorAt per lists i (with-arcs m t) ≡ with-arcs m (exteriorTo (m .edges) (getD lists i []) (getD lists (after (length per) i) []) (getD xs i 0) t)
+    at-pair i t s =
         let w = arcAt (with-arcs m t) per i in
         let o = oppositeOf t (m .edges) w in
         let a = orElse (facelessIn t (getD lists i [])) (oppositeOf t (m .edges) (cell t w 3)) in
         let b = orElse (facelessIn t (map (oppositeOf t (m .edges)) (getD lists (after (length per) i) []))) (oppositeOf t (m .edges) (cell t w 2)) in
         with-cond (eqb (cell t o 4) 0) (put (put (put (put t o 2 a) a 3 o) b 2 o) o 3 b) t
-        ∙ ap (λ (x : ℕ). with-arcs m (exteriorTo (m .edges) (getD lists i []) (getD lists (after (length per) i) []) x t)) (found-once m per i t l s)
+        ∙ ap (λ (x : ℕ). with-arcs m (exteriorTo (m .edges) (getD lists i []) (getD lists (after (length per) i) []) x t)) (found-once m per i t s)
 
 -- ---- lists taken before the edges are in
 

@@ -1,43 +1,25 @@
 -- One turn of each loop of an insert, and what its steps leave of a mesh.
-use Prim.Native.Nat.{ℕ, _+_, _≤_, _<_, zero-le, suc-le-suc}
+use Prim.Native.Nat.{ℕ, _+_, _≤_}
 use native.Mathlib.Omega.{arith}
-use mathlib.Core.Path.{_≡_, refl, ap, sym, _∙_}
+use mathlib.Core.Path.{_≡_, ap, sym, _∙_}
 use mathlib.Core.Bool.{true, false}
-use mathlib.Core.List.{List, [], _∷_, _++_, map, append-nil}
-use lib.ListN.{length, getD, set, take, drop, drop-of-length-le, length-map}
+use mathlib.Core.List.{List, [], map, append-nil}
+use lib.ListN.{length, getD, take, drop, drop-of-length-le, length-map}
 use lib.Seq.{take-all}
 use lib.Dec.{eqb}
 use borrow.Author.Tests.{eq-eqb, ne-eqb}
 use Rattle.rules.specs.declared.Links.{Links}
 use Rattle.rules.specs.Table.{Table, cell, put, upTo, after, orElse, freeRow, count, used}
-use Rattle.rules.specs.Mesh.{Mesh, mesh, with-arcs, oppositeOf, arcBetween, placesOf, linksOf, listOf}
+use Rattle.rules.specs.Mesh.{Mesh, mesh, with-arcs, oppositeOf, linksOf, listOf}
 use Rattle.rules.specs.Link.{getOrInsertEdge, arcCount}
 use Rattle.rules.specs.Insert.{edgesIn, newFace, putFace, listsOf, facelessIn}
 use Rattle.rules.proofs.Scan.{upTo-more}
 use Rattle.rules.proofs.Places.{list-back}
-use Rattle.walks.proofs.Listing.{pushed}
 use Rattle.tables.specs.Sets.{over}
-use Rattle.insert.specs.Perimeter.{listBelow, pairArc, arcsOf, listFrom, listsFrom, interiorTo, interiorBy, exteriorTo, exteriorBy}
-use Rattle.insert.proofs.FoundOnce.{below-length, arcs-length, arcs-at, lists-are, list-at-place, put-face-by}
-
--- ---- the perimeter's arcs, place by place
-
-grown : (f : ℕ → ℕ) (i : ℕ) → listBelow f (i + 1) ≡ listBelow f i ++ (f i ∷ [])
-unfolding listBelow
-grown f i = upTo-more (λ j l. l ++ (f j ∷ [])) i []
-
-pub places-more : (f : ℕ → ℕ) (at : List ℕ) (i x : ℕ) → i < 64 → x ≡ f i → at ≡ placesOf (listBelow f i) → set at i x ≡ placesOf (listBelow f (i + 1))
-places-more f at i x l ex h =
-    let short : length (listBelow f i) ≡ i = below-length f i in
-    let put : set (placesOf (listBelow f i)) i x ≡ placesOf (listBelow f i ++ (x ∷ [])) = rw short at (pushed (listBelow f i) x (omega (arith, short))) in
-    ap (λ (o : List ℕ). set o i x) h ∙ put ∙ ap placesOf (ap (λ (y : ℕ). listBelow f i ++ (y ∷ [])) ex ∙ sym (grown f i))
-
-pub arcs-all : (arcs : Table) (per at : List ℕ) (n : ℕ) → n ≡ length per → at ≡ placesOf (listBelow (pairArc arcs per) n) → record { at = at; len = n } ≡ linksOf (arcsOf arcs per)
-unfolding linksOf arcsOf
-arcs-all arcs per at n e h =
-    let same : at ≡ placesOf (listBelow (pairArc arcs per) (length per)) = h ∙ ap (λ (k : ℕ). placesOf (listBelow (pairArc arcs per) k)) e in
-    let many : n ≡ length (listBelow (pairArc arcs per) (length per)) = e ∙ sym (below-length (pairArc arcs per) (length per)) in
-    λ i. record { at = same i; len = many i }
+use Rattle.pairs.specs.Pairs.{pairArc, arcsOf}
+use Rattle.pairs.proofs.Listed.{pair-listed, arcs-held}
+use Rattle.insert.specs.Perimeter.{listFrom, listsFrom, interiorTo, interiorBy, exteriorTo, exteriorBy}
+use Rattle.insert.proofs.FoundOnce.{lists-are, list-at-place, put-face-by}
 
 -- ---- the edges
 
@@ -84,15 +66,6 @@ exterior-free edges out back x t t₁ t₂ o held eo eh h free before other afte
 
 -- ---- the whole insert, in the code's steps
 
--- the first pair's arc, also of no pairs
-first-arc : (arcs : Table) (per : List ℕ) → getD (arcsOf arcs per) 0 0 ≡ pairArc arcs per 0
-unfolding arcsOf listBelow upTo pairArc arcBetween
-first-arc arcs [] = refl
-first-arc arcs (v ∷ vs) = arcs-at arcs (v ∷ vs) 0 (suc-le-suc zero-le)
-
-arcs-held : (arcs : Table) (per : List ℕ) (xs : Links) → length per ≤ 64 → xs ≡ linksOf (arcsOf arcs per) → listOf xs ≡ arcsOf arcs per
-arcs-held arcs per xs few e = ap listOf e ∙ list-back (arcsOf arcs per) (omega (arith, arcs-length arcs per))
-
 pub put-face-steps : (m : Mesh) (per : List ℕ) (lists : List (List ℕ)) (mark : ℕ) (v₁ a₁ e₁ : Table) (k₁ : List ℕ) (xs : Links) (x f : ℕ) (f₂ : Table) (k₂ : List ℕ) (a₂ a₃ : Table)
     → length per ≤ 64 → mesh v₁ (m .positions) a₁ e₁ (m .faces) k₁ ≡ edgesIn per m → xs ≡ linksOf (arcsOf a₁ per) → x ≡ getD (listOf xs) 0 0 → f ≡ freeRow (m .faces)
     → mesh v₁ (m .positions) a₁ e₁ f₂ k₂ ≡ newFace (mesh v₁ (m .positions) a₁ e₁ (m .faces) k₁) x mark → a₂ ≡ interiorBy (listOf xs) f a₁ → a₃ ≡ exteriorBy e₁ lists (listOf xs) a₂
@@ -100,7 +73,7 @@ pub put-face-steps : (m : Mesh) (per : List ℕ) (lists : List (List ℕ)) (mark
 put-face-steps m per lists mark v₁ a₁ e₁ k₁ xs x f f₂ k₂ a₂ a₃ few edged found first free faced inside outside =
     let m₁ : Mesh = mesh v₁ (m .positions) a₁ e₁ (m .faces) k₁ in
     let held : listOf xs ≡ arcsOf a₁ per = arcs-held a₁ per xs few found in
-    let isx : x ≡ pairArc a₁ per 0 = first ∙ ap (λ (l : List ℕ). getD l 0 0) held ∙ first-arc a₁ per in
+    let isx : x ≡ pairArc a₁ per 0 = first ∙ ap (λ (l : List ℕ). getD l 0 0) held ∙ pair-listed a₁ per 0 in
     let isa : a₃ ≡ exteriorBy e₁ lists (arcsOf a₁ per) (interiorBy (arcsOf a₁ per) (freeRow (m .faces)) a₁) = rw (outside, inside, held, free) in
     ap (λ (n : Mesh). with-arcs n a₃) faced
     ∙ ap (λ (y : ℕ). with-arcs (newFace m₁ y mark) a₃) isx

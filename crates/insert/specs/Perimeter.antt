@@ -1,24 +1,13 @@
 -- Face insert as the code goes about it: the perimeter's arcs are found once, and every link is written by that list.
-use Prim.Native.Nat.{ℕ, zero, suc, _+_, _-_}
-use mathlib.Core.Bool.{Bool, cond}
-use mathlib.Core.List.{List, [], _∷_, _++_, map}
+use Prim.Native.Nat.{ℕ, _-_}
+use mathlib.Core.Bool.{cond}
+use mathlib.Core.List.{List, [], map}
 use lib.ListN.{length, getD}
 use lib.Dec.{eqb}
 use Rattle.rules.specs.Table.{Table, cell, put, upTo, after, orElse}
-use Rattle.rules.specs.Mesh.{oppositeOf, arcBetween}
+use Rattle.rules.specs.Mesh.{oppositeOf}
 use Rattle.rules.specs.Link.{walk, turnIn}
 use Rattle.rules.specs.Insert.{facelessIn}
-
--- the list of f at 0, 1, up to n - 1
-unfoldable pub listBelow : (ℕ → ℕ) → ℕ → List ℕ
-listBelow f n = upTo (λ i l. l ++ (f i ∷ [])) n []
-
--- the arc of pair i, by the arc table alone, and those of all pairs
-unfoldable pub pairArc : Table → List ℕ → ℕ → ℕ
-pairArc arcs per i = arcBetween arcs (getD per i 0) (getD per (after (length per) i) 0)
-
-unfoldable pub arcsOf : Table → List ℕ → List ℕ
-arcsOf arcs per = listBelow (pairArc arcs per) (length per)
 
 -- lists as they were: from these first arcs, in tables as they were, of at most so many arcs
 unfoldable pub listFrom : Table → Table → ℕ → ℕ → List ℕ

@@ -35,7 +35,7 @@ pub fn put_face(
 {
     lists::known_few(per);
     perimeter::edges_in(vertices, arcs, edges, counters, per);
-    let xs = perimeter::perimeter_arcs(arcs, per);
+    let xs = pairs::perimeter_arcs(arcs, per);
     let face = edges::face::new_face(faces, counters, lists::item(xs, 0), mark);
     perimeter::interior(arcs, xs, face);
     perimeter::exterior(arcs, edges, past, pastedges, bound, leads, xs);

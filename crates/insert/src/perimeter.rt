@@ -1,4 +1,4 @@
-// The parts of a face insert: the perimeter's arcs and leading arcs, the edges, the interior, the exterior. Document 01's rule 5:
+// The parts of a face insert: the leading arcs, the edges, the interior, the exterior. Document 01's rule 5:
 // "Then the edges, the face with the first perimeter arc, and the interior: link, then face, arc by arc. Then the exterior."
 
 use rules::ArcRow;
@@ -14,27 +14,10 @@ ghost use mathlib.Core.List.{List, map};
 ghost use Prim.Native.Nat.{ℕ};
 ghost use lib.ListN.{getD};
 ghost use lib.Ieee.{Float};
-ghost use Rattle.rules.specs.Table.{Table, cell, orElse};
+ghost use Rattle.rules.specs.Table.{Table, cell};
 ghost use Rattle.rules.specs.Mesh.{mesh, linksOf, listOf};
 ghost use Rattle.rules.specs.Insert.{edgesIn};
-ghost use Rattle.insert.specs.Perimeter.{arcsOf, listFrom, listsFrom, interiorBy, exteriorTo, exteriorBy};
-
-// The arcs of the perimeter's pairs, found once.
-pub fn perimeter_arcs(arcs: &[ArcRow], per: Links) -> Links
-    ensures { λ r. ⌜ r ≡ linksOf (arcsOf (now (arcs .entry)) (listOf per)) ⌝ }
-{
-    let n = lists::size(per);
-    lists::known_few(per);
-    let mut at = [0u32; RING];
-    let mut i: usize = 0;
-    while i < n {
-        let a = lists::item(per, i);
-        let b = lists::item(per, lists::place_after(n, i));
-        at[i] = rows::find_arc(arcs, a, b);
-        i += 1;
-    }
-    Links { at, len: n }
-}
+ghost use Rattle.insert.specs.Perimeter.{listFrom, listsFrom, interiorBy, exteriorTo, exteriorBy};
 
 // The leading arcs of the perimeter's vertices.
 pub fn leading_arcs(vertices: &[VertexRow], per: Links) -> Links
@@ -85,16 +68,6 @@ pub fn interior(arcs: &mut [ArcRow], xs: Links, face: u32)
     }
 }
 
-// x, or the other where x is none.
-fn or_else(x: u32, other: u32) -> u32
-    ensures { λ r. ⌜ r ≡ orElse x other ⌝ }
-{
-    if x == 0 {
-        return other;
-    }
-    x
-}
-
 // The exterior at the arc x = (a,b), if its opposite has no face: a's outgoing list started at out, b's at back.
 fn exterior_at(
     arcs: &mut [ArcRow],
@@ -112,11 +85,11 @@ fn exterior_at(
     if rows::cell6(arcs, o, 4) != 0 {
         return;
     }
-    let first = or_else(
+    let first = pairs::or_else(
         vertexlists::faceless_out(arcs, past, pastedges, out, bound),
         rows::opposite(arcs, edges, rows::cell6(arcs, x, 3)),
     );
-    let last = or_else(
+    let last = pairs::or_else(
         vertexlists::faceless_in(arcs, edges, past, pastedges, back, bound),
         rows::opposite(arcs, edges, rows::cell6(arcs, x, 2)),
     );

@@ -1,38 +1,124 @@
--- The groups of clauses, and the whole of Sound.
-use mathlib.Core.Path.{_≡_, subst}
+-- The clauses of Sound by the tables that they go over, and the whole of Sound.
+use Prim.Native.Nat.{ℕ, _-_}
+use native.Mathlib.Omega.{arith}
+use mathlib.Core.Path.{_≡_, refl, subst}
 use mathlib.Core.Bool.{Bool, true, false, _&&_}
 use lib.Dec.{T}
 use lib.Ieee.Fits.{and-l, and-r, and-i}
-use Rattle.rules.specs.Mesh.{Mesh}
-use Rattle.rules.specs.Sound.{Sound, sound, withinLimits, keysDiffer, keysBelow, bothArcs, endsDiffer, endsExist, pairsDiffer, edgeJoins, leadsOut, nextLeaves, previousArrives, faceExists, ringsSound, restZero, allFinite}
+use Rattle.rules.specs.Table.{Table, count}
+use Rattle.rules.specs.Mesh.{Mesh, source, dest, nextKey, vertexKind, edgeKind, faceKind}
+use Rattle.rules.specs.Sound.{Sound, sound, withinLimits, keysDiffer, keysBelow, bothArcs, endsDiffer, endsExist, pairsDiffer, edgeJoins, leadsOut, nextLeaves, previousArrives, faceExists, ringsSound, unusedZero, positionsZero, restZero, allFinite}
 use Rattle.rules.proofs.Sums.{same-test}
-use Rattle.proved.proofs.Rows.{true-T}
+use Rattle.proved.proofs.Rows.{T-true, true-T}
 use Rattle.proved.proofs.SoundParts.{parts, whole}
-use Rattle.sound.specs.Parts.{rowsSound, linksSound}
+use Rattle.proved.specs.Demand.{holdsSome}
+use Rattle.proved.specs.Facts.{IsArc, IsVertex}
+use Rattle.proved.proofs.Clauses as facts
+use Rattle.proved.proofs.Edges.{Edges}
+use Rattle.sound.specs.Parts.{below, verticesSound, positionsSound, arcsSound, edgesSound, facesSound, rowsSound, heldIf}
 
 -- what a sound mesh has, and this one has not
 pub lacks : (m : Mesh) (b : Bool) → (T (sound m) → T b) → b ≡ false → false ≡ sound m
 lacks m b f e = same-test false (sound m) (λ z. absurd z) (λ t. subst T e (f t))
 
+-- a count that stands for a test: 0 where it fails, one more where it passes
+module _ (b : Bool) (arcs : Table) (held : ℕ) (e : held ≡ heldIf b arcs) where
+  pub held-none : held ≡ 0 → b ≡ false
+  held-none z = go b e
+    where
+      go : (c : Bool) → held ≡ heldIf c arcs → c ≡ false
+      go true q = let y : ⊥ = omega arith in absurd y
+      go false q = refl
+
+  pub held-some : (held ≡ 0 → ⊥) → (b ≡ true) × (held - 1 ≡ count holdsSome arcs)
+  held-some nz = go b e
+    where
+      go : (c : Bool) → held ≡ heldIf c arcs → (c ≡ true) × (held - 1 ≡ count holdsSome arcs)
+      go true q = (refl, omega arith)
+      go false q = absurd (nz q)
+
+-- all that sizes and rows tell
+pub record RowsTell (m : Mesh) : Type 0 where
+  pub within-limits : T (withinLimits m)
+  pub keys-below : T (keysBelow m)
+  pub both-arcs : T (bothArcs m)
+  pub ends-differ : T (endsDiffer m)
+  pub ends-exist : T (endsExist m)
+  pub edge-joins : T (edgeJoins m)
+  pub leads-out : T (leadsOut m)
+  pub next-leaves : T (nextLeaves m)
+  pub previous-arrives : T (previousArrives m)
+  pub face-exists : T (faceExists m)
+  pub rest-zero : T (restZero m)
+  pub all-finite : T (allFinite m)
+
 module _ (m : Mesh) where
+  abbrev vertexKeys : Bool
+  vertexKeys = below (m .vertices) (nextKey m vertexKind)
+
+  abbrev edgeKeys : Bool
+  edgeKeys = below (m .edges) (nextKey m edgeKind)
+
+  abbrev faceKeys : Bool
+  faceKeys = below (m .faces) (nextKey m faceKind)
+
+  pub rows-tell : T (rowsSound m) → RowsTell m
+  unfolding rowsSound verticesSound positionsSound arcsSound edgesSound facesSound keysBelow restZero
+  rows-tell h =
+      let h₁ = and-r (withinLimits m) _ h in
+      let v = and-l (verticesSound m) _ h₁ in
+      let h₂ = and-r (verticesSound m) _ h₁ in
+      let p = and-l (positionsSound m) _ h₂ in
+      let h₃ = and-r (positionsSound m) _ h₂ in
+      let e = and-l (edgesSound m) _ h₃ in
+      let h₄ = and-r (edgesSound m) _ h₃ in
+      let f = and-l (facesSound m) _ h₄ in
+      let a = and-r (facesSound m) _ h₄ in
+      let v₁ = and-r (unusedZero (m .vertices)) (vertexKeys && leadsOut m) v in
+      let e₁ = and-r (unusedZero (m .edges)) (edgeKeys && bothArcs m) e in
+      let a₁ = and-r (unusedZero (m .arcs)) ((endsDiffer m && (endsExist m && edgeJoins m)) && (nextLeaves m && (previousArrives m && faceExists m))) a in
+      let ends = and-l (endsDiffer m && (endsExist m && edgeJoins m)) (nextLeaves m && (previousArrives m && faceExists m)) a₁ in
+      let links = and-r (endsDiffer m && (endsExist m && edgeJoins m)) (nextLeaves m && (previousArrives m && faceExists m)) a₁ in
+      let ends₁ = and-r (endsDiffer m) (endsExist m && edgeJoins m) ends in
+      let links₁ = and-r (nextLeaves m) (previousArrives m && faceExists m) links in
+      record {
+        within-limits = and-l (withinLimits m) _ h;
+        keys-below = and-i vertexKeys (edgeKeys && faceKeys) (and-l vertexKeys (leadsOut m) v₁) (and-i edgeKeys faceKeys (and-l edgeKeys (bothArcs m) e₁) (and-r (unusedZero (m .faces)) faceKeys f));
+        both-arcs = and-r edgeKeys (bothArcs m) e₁;
+        ends-differ = and-l (endsDiffer m) (endsExist m && edgeJoins m) ends;
+        ends-exist = and-l (endsExist m) (edgeJoins m) ends₁;
+        edge-joins = and-r (endsExist m) (edgeJoins m) ends₁;
+        leads-out = and-r vertexKeys (leadsOut m) v₁;
+        next-leaves = and-l (nextLeaves m) (previousArrives m && faceExists m) links;
+        previous-arrives = and-l (previousArrives m) (faceExists m) links₁;
+        face-exists = and-r (previousArrives m) (faceExists m) links₁;
+        rest-zero =
+            and-i (unusedZero (m .vertices)) _ (and-l (unusedZero (m .vertices)) (vertexKeys && leadsOut m) v)
+            (and-i (unusedZero (m .arcs)) _ (and-l (unusedZero (m .arcs)) _ a)
+            (and-i (unusedZero (m .edges)) _ (and-l (unusedZero (m .edges)) (edgeKeys && bothArcs m) e)
+            (and-i (unusedZero (m .faces)) (positionsZero m) (and-l (unusedZero (m .faces)) faceKeys f) (and-l (positionsZero m) (allFinite m) p))));
+        all-finite = and-r (positionsZero m) (allFinite m) p;
+      }
+
+  -- a sound mesh has it all
   pub rows-of : T (sound m) → T (rowsSound m)
-  unfolding rowsSound
+  unfolding rowsSound verticesSound positionsSound arcsSound edgesSound facesSound keysBelow restZero
   rows-of t =
       let s = parts m t in
+      let k = s .keys-below in
+      let k₁ = and-r vertexKeys (edgeKeys && faceKeys) k in
+      let z = s .rest-zero in
+      let z₁ = and-r (unusedZero (m .vertices)) _ z in
+      let z₂ = and-r (unusedZero (m .arcs)) _ z₁ in
+      let z₃ = and-r (unusedZero (m .edges)) _ z₂ in
+      let ends = and-i (endsDiffer m) _ (s .ends-differ) (and-i (endsExist m) (edgeJoins m) (s .ends-exist) (s .edge-joins)) in
+      let links = and-i (nextLeaves m) _ (s .next-leaves) (and-i (previousArrives m) (faceExists m) (s .previous-arrives) (s .face-exists)) in
       and-i (withinLimits m) _ (s .within-limits)
-      (and-i (keysBelow m) _ (s .keys-below) (and-i (allFinite m) (restZero m) (s .all-finite) (s .rest-zero)))
-
-  pub links-of : T (sound m) → T (linksSound m)
-  unfolding linksSound
-  links-of t =
-      let s = parts m t in
-      and-i (endsDiffer m) _ (s .ends-differ)
-      (and-i (endsExist m) _ (s .ends-exist)
-      (and-i (bothArcs m) _ (s .both-arcs)
-      (and-i (edgeJoins m) _ (s .edge-joins)
-      (and-i (leadsOut m) _ (s .leads-out)
-      (and-i (nextLeaves m) _ (s .next-leaves)
-      (and-i (previousArrives m) (faceExists m) (s .previous-arrives) (s .face-exists)))))))
+      (and-i (verticesSound m) _ (and-i (unusedZero (m .vertices)) _ (and-l (unusedZero (m .vertices)) _ z) (and-i vertexKeys (leadsOut m) (and-l vertexKeys (edgeKeys && faceKeys) k) (s .leads-out)))
+      (and-i (positionsSound m) _ (and-i (positionsZero m) (allFinite m) (and-r (unusedZero (m .faces)) (positionsZero m) z₃) (s .all-finite))
+      (and-i (edgesSound m) _ (and-i (unusedZero (m .edges)) _ (and-l (unusedZero (m .edges)) _ z₂) (and-i edgeKeys (bothArcs m) (and-l edgeKeys faceKeys k₁) (s .both-arcs)))
+      (and-i (facesSound m) (arcsSound m) (and-i (unusedZero (m .faces)) faceKeys (and-l (unusedZero (m .faces)) (positionsZero m) z₃) (and-r edgeKeys faceKeys k₁))
+      (and-i (unusedZero (m .arcs)) _ (and-l (unusedZero (m .arcs)) _ z₁) (and-i (endsDiffer m && (endsExist m && edgeJoins m)) _ ends links))))))
 
   pub rings-of : T (sound m) → T (ringsSound m)
   rings-of t = parts m t .rings-sound
@@ -40,56 +126,44 @@ module _ (m : Mesh) where
   pub keys-of : T (sound m) → T (keysDiffer m)
   keys-of t = parts m t .keys-differ
 
-  module _ (h : linksSound m ≡ true) where
-    l₁ : T (endsExist m && (bothArcs m && (edgeJoins m && (leadsOut m && (nextLeaves m && (previousArrives m && faceExists m))))))
-    unfolding linksSound
-    l₁ = and-r (endsDiffer m) _ (true-T h)
+  module _ (h : rowsSound m ≡ true) where
+    abbrev told : RowsTell m
+    told = rows-tell (true-T h)
 
-    l₂ : T (bothArcs m && (edgeJoins m && (leadsOut m && (nextLeaves m && (previousArrives m && faceExists m)))))
-    l₂ = and-r (endsExist m) _ l₁
-
-    l₃ : T (edgeJoins m && (leadsOut m && (nextLeaves m && (previousArrives m && faceExists m))))
-    l₃ = and-r (bothArcs m) _ l₂
-
-    l₄ : T (leadsOut m && (nextLeaves m && (previousArrives m && faceExists m)))
-    l₄ = and-r (edgeJoins m) _ l₃
-
-    l₅ : T (nextLeaves m && (previousArrives m && faceExists m))
-    l₅ = and-r (leadsOut m) _ l₄
-
-    l₆ : T (previousArrives m && faceExists m)
-    l₆ = and-r (nextLeaves m) _ l₅
+    pub limits-kept : withinLimits m ≡ true
+    limits-kept = T-true (withinLimits m) (told .within-limits)
 
     pub faces-exist : faceExists m ≡ true
-    faces-exist = Rattle.proved.proofs.Rows.T-true (faceExists m) (and-r (previousArrives m) _ l₆)
+    faces-exist = T-true (faceExists m) (told .face-exists)
+
+    -- what is known of edges
+    pub edges-told : Edges m
+    edges-told =
+        record { both-arcs = facts.both-arcs m .0 (told .both-arcs); ends-differ = facts.ends-differ m .0 (told .ends-differ); edge-exists = λ x u. facts.edge-joins m .0 (told .edge-joins) x u .0; edge-names = λ x u. facts.edge-joins m .0 (told .edge-joins) x u .1 }
+
+    pub ends-told : (x : ℕ) → IsArc m x → IsVertex m (source m x) × IsVertex m (dest m x)
+    ends-told = facts.ends-exist m .0 (told .ends-exist)
 
     -- the rest holds: then the last clause decides
-    pub decides : rowsSound m ≡ true → ringsSound m ≡ true → keysDiffer m ≡ true → pairsDiffer m ≡ sound m
-    unfolding linksSound rowsSound
-    decides r g k = same-test (pairsDiffer m) (sound m) (λ t. whole m (all t)) (λ t. parts m t .pairs-differ)
+    pub decides : ringsSound m ≡ true → keysDiffer m ≡ true → pairsDiffer m ≡ sound m
+    decides g k = same-test (pairsDiffer m) (sound m) (λ t. whole m (all t)) (λ t. parts m t .pairs-differ)
       where
-        r₁ : T (keysBelow m && (allFinite m && restZero m))
-        r₁ = and-r (withinLimits m) _ (true-T r)
-
-        r₂ : T (allFinite m && restZero m)
-        r₂ = and-r (keysBelow m) _ r₁
-
         all : T (pairsDiffer m) → Sound m
         all t =
             record {
-              within-limits = and-l (withinLimits m) _ (true-T r);
+              within-limits = told .within-limits;
               keys-differ = true-T k;
-              keys-below = and-l (keysBelow m) _ r₁;
-              both-arcs = and-l (bothArcs m) _ l₂;
-              ends-differ = and-l (endsDiffer m) _ (true-T h);
-              ends-exist = and-l (endsExist m) _ l₁;
+              keys-below = told .keys-below;
+              both-arcs = told .both-arcs;
+              ends-differ = told .ends-differ;
+              ends-exist = told .ends-exist;
               pairs-differ = t;
-              edge-joins = and-l (edgeJoins m) _ l₃;
-              leads-out = and-l (leadsOut m) _ l₄;
-              next-leaves = and-l (nextLeaves m) _ l₅;
-              previous-arrives = and-l (previousArrives m) _ l₆;
-              face-exists = and-r (previousArrives m) _ l₆;
+              edge-joins = told .edge-joins;
+              leads-out = told .leads-out;
+              next-leaves = told .next-leaves;
+              previous-arrives = told .previous-arrives;
+              face-exists = told .face-exists;
               rings-sound = true-T g;
-              rest-zero = and-r (allFinite m) _ r₂;
-              all-finite = and-l (allFinite m) _ r₂;
+              rest-zero = told .rest-zero;
+              all-finite = told .all-finite;
             }

@@ -1,7 +1,7 @@
-pub mod Loops
 pub mod Rows
-pub mod KeyRows
+pub mod Named
 pub mod RingRows
 pub mod Counting
+pub mod RingWalk
 pub mod RingSums
 pub mod Groups

@@ -18,7 +18,7 @@ use Rattle.rules.proofs.Sums.{same-test}
 use Rattle.proved.specs.Demand.{allHolders}
 use Rattle.proved.proofs.Rows.{T-true, true-T, cell-row, used-at}
 use Rattle.sound.specs.Rings.{ringWhole, ringLength}
-use Rattle.sound.proofs.Loops.{Passed, none-yet, one-more, all-passed}
+use Rattle.names.proofs.Loops.{Passed, none-yet, one-more, all-passed}
 use Rattle.sound.proofs.Counting.{onRings, sound-whole, length-none, length-some, counts-add, counts-show}
 
 -- ---- no other table is read

@@ -1,62 +1,117 @@
--- Each clause of Sound as a test of each row of one table: what the loop over that table tests.
-use Prim.Native.Nat.{ℕ, _+_}
-use mathlib.Core.Path.{_≡_}
+-- Each clause of Sound as a test of each row of one table, and all clauses of a table as one test of each row: what the loop over that
+-- table tests.
+use Prim.Native.Nat.{ℕ, zero, suc, _+_}
+use mathlib.Core.Path.{_≡_, refl, ap, _∙_}
+use mathlib.Core.Bool.{Bool, true, false, cond, _&&_, _||_}
+use mathlib.Core.List.{List, [], _∷_}
 use lib.ListN.{length, getD}
-use mathlib.Core.Bool.{_||_}
-use mathlib.Core.List.{List, []}
-use lib.Dec.{eqb}
-use Rattle.rules.specs.Table.{Table, allBelow, there, used}
-use Rattle.rules.specs.Mesh.{Mesh}
-use Rattle.rules.specs.Sound.{hasBothArcs, bothArcs, endsDiffer, endsExist, pairsDiffer, edgeJoins, leadsOut, nextLeaves, previousArrives, faceExists, zeroRow, unusedZero, positionsZero}
+use lib.Dec.{eqb, ltb}
+use Rattle.rules.specs.Table.{Table, allBelow, every, there, used, unused}
+use Rattle.rules.specs.Mesh.{Mesh, keyOf, nextKey, vertexKind, edgeKind, faceKind}
+use Rattle.rules.specs.Point.{zeroPositionRow, finiteRow}
+use Rattle.rules.specs.Sound.{keysOf, hasBothArcs, bothArcs, endsDiffer, endsExist, edgeJoins, leadsOut, nextLeaves, previousArrives, faceExists, zeroRow, unusedZero, positionsZero, allFinite}
 use Rattle.proved.proofs.Rows.{row-link, cell-row}
-use Rattle.rules.specs.Point.{zeroPositionRow}
-use Rattle.sound.specs.Tests.{bothRow, differRow, existRow, pairRow, joinsRow, leadsRow, nextRow, previousRow, faceRow}
-use Rattle.sound.proofs.Loops.{every-all}
+use Rattle.names.proofs.Loops.{every-all}
+use Rattle.sound.specs.Tests.{blankRow, keyTest, bothRow, differRow, existRow, joinsRow, endsRow, leadsRow, nextRow, previousRow, faceRow, linksRow, vertexTest, positionTest, arcTest, edgeTest, faceTest}
+use Rattle.sound.specs.Parts.{below, verticesSound, positionsSound, arcsSound, edgesSound, facesSound}
+
+-- ---- two tests of each row are one
+
+all-and : (p q : ℕ → Bool) (n : ℕ) → (allBelow p n && allBelow q n) ≡ allBelow (λ i. p i && q i) n
+unfolding allBelow
+all-and p q zero = refl
+all-and p q (suc n) = go (allBelow p n) (allBelow q n) (p n) (q n) ∙ ap (λ (b : Bool). b && (p n && q n)) (all-and p q n)
+  where
+    go : (a b c d : Bool) → ((a && c) && (b && d)) ≡ ((a && b) && (c && d))
+    go true true c d = refl
+    go true false true d = refl
+    go true false false d = refl
+    go false b c d = refl
+
+-- ---- each clause
 
 module _ (m : Mesh) where
-  pub both-arcs : bothArcs m ≡ allBelow (λ i. bothRow (m .arcs) (getD (m .edges) i []) (i + 1)) (length (m .edges))
+  both-arcs : bothArcs m ≡ allBelow (λ i. bothRow (m .arcs) (getD (m .edges) i []) (i + 1)) (length (m .edges))
   unfolding bothArcs hasBothArcs bothRow
   both-arcs = simp cell-row
 
-  pub ends-differ : endsDiffer m ≡ allBelow (λ i. differRow (getD (m .arcs) i [])) (length (m .arcs))
+  ends-differ : endsDiffer m ≡ allBelow (λ i. differRow (getD (m .arcs) i [])) (length (m .arcs))
   unfolding endsDiffer differRow
   ends-differ = simp cell-row
 
-  pub ends-exist : endsExist m ≡ allBelow (λ i. existRow (m .vertices) (getD (m .arcs) i [])) (length (m .arcs))
+  ends-exist : endsExist m ≡ allBelow (λ i. existRow (m .vertices) (getD (m .arcs) i [])) (length (m .arcs))
   unfolding endsExist existRow
   ends-exist = simp cell-row
 
-  pub pairs-differ : pairsDiffer m ≡ allBelow (λ i. pairRow (m .arcs) (getD (m .arcs) i []) (i + 1)) (length (m .arcs))
-  unfolding pairsDiffer pairRow
-  pairs-differ = simp cell-row
-
-  pub edge-joins : edgeJoins m ≡ allBelow (λ i. joinsRow (m .edges) (getD (m .arcs) i []) (i + 1)) (length (m .arcs))
+  edge-joins : edgeJoins m ≡ allBelow (λ i. joinsRow (m .edges) (getD (m .arcs) i []) (i + 1)) (length (m .arcs))
   unfolding edgeJoins joinsRow
   edge-joins = simp cell-row
 
-  pub leads-out : leadsOut m ≡ allBelow (λ i. leadsRow (m .arcs) (getD (m .vertices) i []) (i + 1)) (length (m .vertices))
+  leads-out : leadsOut m ≡ allBelow (λ i. leadsRow (m .arcs) (getD (m .vertices) i []) (i + 1)) (length (m .vertices))
   unfolding leadsOut leadsRow
   leads-out = simp cell-row
 
-  pub next-leaves : nextLeaves m ≡ allBelow (λ i. nextRow (m .arcs) (getD (m .arcs) i [])) (length (m .arcs))
+  next-leaves : nextLeaves m ≡ allBelow (λ i. nextRow (m .arcs) (getD (m .arcs) i [])) (length (m .arcs))
   unfolding nextLeaves nextRow
   next-leaves = simp cell-row
 
-  pub previous-arrives : previousArrives m ≡ allBelow (λ i. previousRow (m .arcs) (getD (m .arcs) i [])) (length (m .arcs))
+  previous-arrives : previousArrives m ≡ allBelow (λ i. previousRow (m .arcs) (getD (m .arcs) i [])) (length (m .arcs))
   unfolding previousArrives previousRow
   previous-arrives = simp cell-row
 
-  pub face-exists : faceExists m ≡ allBelow (λ i. faceRow (m .faces) (getD (m .arcs) i [])) (length (m .arcs))
+  face-exists : faceExists m ≡ allBelow (λ i. faceRow (m .faces) (getD (m .arcs) i [])) (length (m .arcs))
   unfolding faceExists faceRow
   face-exists = simp cell-row
 
-  pub positions-zero : positionsZero m ≡ allBelow (λ i. there (m .vertices) (i + 1) || zeroPositionRow (getD (m .positions) i [])) (length (m .positions))
+  positions-zero : positionsZero m ≡ allBelow (λ i. there (m .vertices) (i + 1) || zeroPositionRow (getD (m .positions) i [])) (length (m .positions))
   unfolding positionsZero
   positions-zero = simp row-link
 
-pub unused-zero : (t : Table) → unusedZero t ≡ allBelow (λ i. used (getD t i []) || zeroRow (getD t i [])) (length t)
+  all-finite : allFinite m ≡ allBelow (λ i. finiteRow (getD (m .positions) i [])) (length (m .positions))
+  unfolding allFinite
+  all-finite = every-all finiteRow (m .positions) []
+
+unused-zero : (t : Table) → unusedZero t ≡ allBelow (λ i. blankRow (getD t i [])) (length t)
+unfolding blankRow
 unused-zero t = every-all (λ r. used r || zeroRow r) t []
+
+-- a test of every key is a test of every row
+rows-keys : (p : ℕ → Bool) (t : Table) → every p (keysOf t) ≡ every (λ r. unused r || p (keyOf r)) t
+unfolding keysOf every
+rows-keys p [] = refl
+rows-keys p (r ∷ rs) = go (unused r) (rows-keys p rs)
+  where
+    go : (b : Bool) → every p (keysOf rs) ≡ every (λ r. unused r || p (keyOf r)) rs → every p (cond b (keysOf rs) (keyOf r ∷ keysOf rs)) ≡ ((b || p (keyOf r)) && every (λ r. unused r || p (keyOf r)) rs)
+    go true ih = ih
+    go false ih = ap (λ (x : Bool). p (keyOf r) && x) ih
+
+keys-below : (t : Table) (counter : ℕ) → below t counter ≡ allBelow (λ i. keyTest counter (getD (getD t i []) 0 0)) (length t)
+unfolding keyTest
+keys-below t counter = rows-keys (λ k. ltb k counter) t ∙ every-all (λ r. unused r || ltb (keyOf r) counter) t []
 
 -- one cell after the other
 pub zero-row : (r : List ℕ) → zeroRow r ≡ allBelow (λ i. eqb 0 (getD r i 0)) (length r)
 zero-row r = every-all (eqb 0) r 0
+
+-- ---- each table
+
+module _ (m : Mesh) where
+  pub vertices-rows : verticesSound m ≡ allBelow (λ i. vertexTest (m .arcs) (nextKey m vertexKind) (getD (m .vertices) i []) (i + 1)) (length (m .vertices))
+  unfolding verticesSound vertexTest
+  vertices-rows = rw (unused-zero (m .vertices), keys-below (m .vertices) (nextKey m vertexKind), leads-out m) (simp all-and)
+
+  pub positions-rows : positionsSound m ≡ allBelow (λ i. positionTest (m .vertices) (getD (m .positions) i []) (i + 1)) (length (m .positions))
+  unfolding positionsSound positionTest
+  positions-rows = rw (positions-zero m, all-finite m) (simp all-and)
+
+  pub arcs-rows : arcsSound m ≡ allBelow (λ i. arcTest (m .vertices) (m .arcs) (m .edges) (m .faces) (getD (m .arcs) i []) (i + 1)) (length (m .arcs))
+  unfolding arcsSound arcTest endsRow linksRow
+  arcs-rows = rw (unused-zero (m .arcs), ends-differ m, ends-exist m, edge-joins m, next-leaves m, previous-arrives m, face-exists m) (simp all-and)
+
+  pub edges-rows : edgesSound m ≡ allBelow (λ i. edgeTest (m .arcs) (nextKey m edgeKind) (getD (m .edges) i []) (i + 1)) (length (m .edges))
+  unfolding edgesSound edgeTest
+  edges-rows = rw (unused-zero (m .edges), keys-below (m .edges) (nextKey m edgeKind), both-arcs m) (simp all-and)
+
+  pub faces-rows : facesSound m ≡ allBelow (λ i. faceTest (nextKey m faceKind) (getD (m .faces) i [])) (length (m .faces))
+  unfolding facesSound faceTest
+  faces-rows = rw (unused-zero (m .faces), keys-below (m .faces) (nextKey m faceKind)) (simp all-and)

@@ -1,4 +1,4 @@
 pub mod Tests
-pub mod Keys
+pub mod Names
 pub mod Rings
 pub mod Parts

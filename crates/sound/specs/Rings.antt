@@ -2,9 +2,15 @@
 use Prim.Native.Nat.{ℕ}
 use mathlib.Core.Bool.{Bool, _&&_, cond}
 use lib.ListN.{length}
+use lib.Dec.{eqb}
+use Rattle.rules.specs.Table.{Table, cell, there}
 use Rattle.rules.specs.Mesh.{Mesh}
 use Rattle.rules.specs.Link.{ring}
 use Rattle.rules.specs.Sound.{namesHolder, comesBack, threeToLimit, sourcesDiffer, ringHolds, runsBack}
+
+-- an arc on it holds the face, and previous of next is the arc itself
+unfoldable pub ringArc : Table → ℕ → ℕ → Bool
+ringArc arcs f x = (there arcs x && eqb (cell arcs x 4) f) && eqb (cell arcs (cell arcs x 2) 3) x
 
 unfoldable pub ringWhole : Mesh → ℕ → Bool
 ringWhole m f =

@@ -1,13 +1,24 @@
--- The test of one row for each clause of Sound, on the cells of the row as the code reads them. An unused row passes.
--- A row's own link comes last, where the clause asks for it.
-use Prim.Native.Nat.{ℕ}
+-- The test of one row for each clause of Sound, on the cells of the row as the code reads them, and all of them for a row of each table.
+-- Where a clause asks something of used rows alone, an unused row passes. A row's own link comes last, where the clause asks for it.
+use Prim.Native.Nat.{ℕ, _-_}
 use mathlib.Core.Bool.{Bool, not, _&&_, _||_}
 use mathlib.Core.List.{List}
 use lib.ListN.{getD}
-use lib.Dec.{eqb}
+use lib.Dec.{eqb, ltb}
+use lib.Ieee.{Float}
 use Rattle.rules.specs.Table.{Table, cell, there, used}
-use Rattle.rules.specs.Mesh.{arcBetween}
-use Rattle.rules.specs.Sound.{unlessNone}
+use Rattle.rules.specs.Point.{finiteRow, zeroPositionRow}
+use Rattle.rules.specs.Sound.{unlessNone, zeroRow}
+
+-- ---- any row
+
+-- unused, it is zero
+unfoldable pub blankRow : List ℕ → Bool
+blankRow r = used r || zeroRow r
+
+-- the key in a first cell lies below the counter
+unfoldable pub keyTest : ℕ → ℕ → Bool
+keyTest counter first = eqb first 0 || ltb (first - 1) counter
 
 -- ---- edges and arcs
 
@@ -26,12 +37,12 @@ differRow r = not (used r) || not (eqb (getD r 0 0) (getD r 1 0))
 unfoldable pub existRow : Table → List ℕ → Bool
 existRow vertices r = not (used r) || (there vertices (getD r 0 0) && there vertices (getD r 1 0))
 
-unfoldable pub pairRow : Table → List ℕ → ℕ → Bool
-pairRow arcs r x = not (used r) || eqb (arcBetween arcs (getD r 0 0) (getD r 1 0)) x
-
 unfoldable pub joinsRow : Table → List ℕ → ℕ → Bool
 joinsRow edges r x =
     not (used r) || (there edges (getD r 5 0) && (eqb (cell edges (getD r 5 0) 1) x || eqb (cell edges (getD r 5 0) 2) x))
+
+unfoldable pub endsRow : Table → Table → List ℕ → ℕ → Bool
+endsRow vertices edges r x = differRow r && (existRow vertices r && joinsRow edges r x)
 
 -- ---- links
 
@@ -46,3 +57,23 @@ previousRow arcs r = not (used r) || unlessNone (getD r 3 0) (there arcs (getD r
 
 unfoldable pub faceRow : Table → List ℕ → Bool
 faceRow faces r = not (used r) || unlessNone (getD r 4 0) (there faces (getD r 4 0))
+
+unfoldable pub linksRow : Table → Table → List ℕ → Bool
+linksRow arcs faces r = nextRow arcs r && (previousRow arcs r && faceRow faces r)
+
+-- ---- a row of each table
+
+unfoldable pub vertexTest : Table → ℕ → List ℕ → ℕ → Bool
+vertexTest arcs counter r v = blankRow r && (keyTest counter (getD r 0 0) && leadsRow arcs r v)
+
+unfoldable pub positionTest : Table → List Float → ℕ → Bool
+positionTest vertices r v = (there vertices v || zeroPositionRow r) && finiteRow r
+
+unfoldable pub arcTest : Table → Table → Table → Table → List ℕ → ℕ → Bool
+arcTest vertices arcs edges faces r x = blankRow r && (endsRow vertices edges r x && linksRow arcs faces r)
+
+unfoldable pub edgeTest : Table → ℕ → List ℕ → ℕ → Bool
+edgeTest arcs counter r e = blankRow r && (keyTest counter (getD r 0 0) && bothRow arcs r e)
+
+unfoldable pub faceTest : ℕ → List ℕ → Bool
+faceTest counter r = blankRow r && keyTest counter (getD r 0 0)

@@ -2,20 +2,17 @@
 
 use rules::ArcRow;
 use rules::EdgeRow;
-use rules::FaceRow;
+use rules::Position;
 use rules::PositionRow;
 use rules::VertexRow;
 use tables::points;
 ghost use mathlib.Core.Path.{_≡_};
 ghost use mathlib.Core.Bool.{_||_};
-ghost use mathlib.Core.List.{List};
-ghost use Prim.Native.Nat.{ℕ, _+_};
-ghost use Rattle.rules.specs.Table.{Table, there, used};
-ghost use Rattle.rules.specs.Mesh.{mesh};
-ghost use Rattle.rules.specs.Point.{zeroPositionRow};
-ghost use Rattle.rules.specs.Sound.{zeroRow, unusedZero, positionsZero, restZero, allFinite};
-
-// ---- one row
+ghost use Prim.Native.Nat.{_+_};
+ghost use Rattle.rules.specs.Table.{there};
+ghost use Rattle.rules.specs.Point.{zeroPositionRow, finiteRow};
+ghost use Rattle.rules.specs.Sound.{zeroRow};
+ghost use Rattle.sound.specs.Tests.{blankRow, positionTest};
 
 // Whether all cells of a row are zero.
 fn zero_cells(row: &[u32]) -> bool
@@ -31,8 +28,9 @@ fn zero_cells(row: &[u32]) -> bool
     true
 }
 
-fn blank2(row: VertexRow) -> bool
-    ensures { λ r. ⌜ r ≡ (used row || zeroRow row) ⌝ }
+// Unused rows are zero, in a table of each width.
+pub fn blank2(row: VertexRow) -> bool
+    ensures { λ r. ⌜ r ≡ blankRow row ⌝ }
 {
     if row[0] != 0 {
         return true;
@@ -40,8 +38,8 @@ fn blank2(row: VertexRow) -> bool
     zero_cells(&row)
 }
 
-fn blank3(row: EdgeRow) -> bool
-    ensures { λ r. ⌜ r ≡ (used row || zeroRow row) ⌝ }
+pub fn blank3(row: EdgeRow) -> bool
+    ensures { λ r. ⌜ r ≡ blankRow row ⌝ }
 {
     if row[0] != 0 {
         return true;
@@ -49,8 +47,8 @@ fn blank3(row: EdgeRow) -> bool
     zero_cells(&row)
 }
 
-fn blank6(row: ArcRow) -> bool
-    ensures { λ r. ⌜ r ≡ (used row || zeroRow row) ⌝ }
+pub fn blank6(row: ArcRow) -> bool
+    ensures { λ r. ⌜ r ≡ blankRow row ⌝ }
 {
     if row[0] != 0 {
         return true;
@@ -81,6 +79,7 @@ fn zero_position(row: PositionRow) -> bool
     points::zero_bits(row[2])
 }
 
+// The position in an unused vertex's row is zero too.
 fn blank_position(vertices: &[VertexRow], i: usize, row: PositionRow) -> bool
     ensures { λ r. ⌜ r ≡ (there (now (vertices .entry)) (i + 1) || zeroPositionRow row) ⌝ }
 {
@@ -90,89 +89,23 @@ fn blank_position(vertices: &[VertexRow], i: usize, row: PositionRow) -> bool
     zero_position(row)
 }
 
-// ---- every row
-
-pub fn unused_zero2(t: &[VertexRow]) -> bool
-    ensures { λ r. ⌜ r ≡ unusedZero (now (t .entry)) ⌝ }
+// Whether every coordinate of a position is finite.
+fn finite_row(row: PositionRow) -> bool
+    ensures { λ r. ⌜ r ≡ finiteRow row ⌝ }
 {
-    let mut i = 0;
-    while i < t.len() {
-        if !blank2(t[i]) {
-            return false;
-        }
-        i += 1;
-    }
-    true
+    points::finite_position(Position {
+        x: row[0],
+        y: row[1],
+        z: row[2],
+    })
 }
 
-pub fn unused_zero3(t: &[EdgeRow]) -> bool
-    ensures { λ r. ⌜ r ≡ unusedZero (now (t .entry)) ⌝ }
+// What document 01 asks of a position.
+pub fn position_row(vertices: &[VertexRow], i: usize, row: PositionRow) -> bool
+    ensures { λ r. ⌜ r ≡ positionTest (now (vertices .entry)) row (i + 1) ⌝ }
 {
-    let mut i = 0;
-    while i < t.len() {
-        if !blank3(t[i]) {
-            return false;
-        }
-        i += 1;
-    }
-    true
-}
-
-pub fn unused_zero6(t: &[ArcRow]) -> bool
-    ensures { λ r. ⌜ r ≡ unusedZero (now (t .entry)) ⌝ }
-{
-    let mut i = 0;
-    while i < t.len() {
-        if !blank6(t[i]) {
-            return false;
-        }
-        i += 1;
-    }
-    true
-}
-
-// The position in an unused vertex's row is zero too.
-pub fn positions_zero(vertices: &[VertexRow], positions: &[PositionRow]) -> bool
-    ensures { λ r. ⌜ ((a e f : Table) (k : List ℕ) → r ≡ positionsZero (mesh (now (vertices .entry)) (now (positions .entry)) a e f k)) ⌝ }
-{
-    let mut i = 0;
-    while i < positions.len() {
-        if !blank_position(vertices, i, positions[i]) {
-            return false;
-        }
-        i += 1;
-    }
-    true
-}
-
-// Unused rows are zero, in every table.
-pub fn rest_zero(
-    vertices: &[VertexRow],
-    positions: &[PositionRow],
-    arcs: &[ArcRow],
-    edges: &[EdgeRow],
-    faces: &[FaceRow],
-) -> bool
-    ensures { λ r. ⌜ ((k : List ℕ) → r ≡ restZero (mesh (now (vertices .entry)) (now (positions .entry)) (now (arcs .entry)) (now (edges .entry)) (now (faces .entry)) k)) ⌝ }
-{
-    if !unused_zero2(vertices) {
+    if !blank_position(vertices, i, row) {
         return false;
     }
-    if !unused_zero6(arcs) {
-        return false;
-    }
-    if !unused_zero3(edges) {
-        return false;
-    }
-    if !unused_zero3(faces) {
-        return false;
-    }
-    positions_zero(vertices, positions)
-}
-
-// Every coordinate is finite.
-pub fn all_finite(positions: &[PositionRow]) -> bool
-    ensures { λ r. ⌜ ((v a e f : Table) (k : List ℕ) → r ≡ allFinite (mesh v (now (positions .entry)) a e f k)) ⌝ }
-{
-    points::finite_rows(positions)
+    finite_row(row)
 }

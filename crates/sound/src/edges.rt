@@ -1,22 +1,26 @@
 // Edges and their arcs. It carries document 01's "each edge has both arcs, its ends differ and exist, and no two edges join the same pair;
-// each arc's edge joins its ends".
+// each arc's edge joins its ends". An edge's name is the pair of its ends, the lesser first.
 
+use names::ROWS;
 use rules::ArcRow;
 use rules::EdgeRow;
 use rules::VertexRow;
 use tables::rows;
 ghost use mathlib.Core.Path.{_≡_};
-ghost use mathlib.Core.Bool.{_&&_};
-ghost use mathlib.Core.List.{List};
-ghost use Prim.Native.Nat.{ℕ};
+ghost use mathlib.Core.Bool.{true, _&&_};
+ghost use mathlib.Core.List.{List, map};
+ghost use Prim.Native.Nat.{ℕ, _≤_};
+ghost use lib.ListN.{length, take};
 ghost use lib.Ieee.{Float};
 ghost use lib.Dec.{eqb};
 ghost use Rattle.rules.specs.Table.{Table, cell};
 ghost use Rattle.rules.specs.Mesh.{mesh};
-ghost use Rattle.rules.specs.Sound.{bothArcs, endsDiffer, endsExist, pairsDiffer, edgeJoins};
-ghost use Rattle.sound.specs.Tests.{bothRow, differRow, existRow, pairRow, joinsRow};
+ghost use Rattle.rules.specs.Sound.{pairsDiffer};
+ghost use Rattle.sound.specs.Tests.{bothRow, differRow, existRow, joinsRow, endsRow};
+ghost use Rattle.sound.specs.Names.{edgeName};
+ghost use Rattle.sound.specs.Parts.{rowsSound};
 
-// ---- one row
+// ---- one row: an unused row passes
 
 // Whether two arcs have each other's ends swapped.
 fn swapped(arcs: &[ArcRow], x: u32, y: u32) -> bool
@@ -28,7 +32,8 @@ fn swapped(arcs: &[ArcRow], x: u32, y: u32) -> bool
     rows::cell6(arcs, x, 1) == rows::cell6(arcs, y, 0)
 }
 
-fn both_row(arcs: &[ArcRow], row: EdgeRow, e: usize) -> bool
+// An edge has both arcs: the two that it names are there, hold it, and have each other's ends swapped.
+pub fn both_row(arcs: &[ArcRow], row: EdgeRow, e: usize) -> bool
     ensures { λ r. ⌜ r ≡ bothRow (now (arcs .entry)) row e ⌝ }
 {
     if row[0] == 0 {
@@ -51,6 +56,7 @@ fn both_row(arcs: &[ArcRow], row: EdgeRow, e: usize) -> bool
     swapped(arcs, x, y)
 }
 
+// Its ends differ.
 fn differ_row(row: ArcRow) -> bool
     ensures { λ r. ⌜ r ≡ differRow row ⌝ }
 {
@@ -60,6 +66,7 @@ fn differ_row(row: ArcRow) -> bool
     row[0] != row[1]
 }
 
+// And exist.
 fn exist_row(vertices: &[VertexRow], row: ArcRow) -> bool
     ensures { λ r. ⌜ r ≡ existRow (now (vertices .entry)) row ⌝ }
 {
@@ -72,15 +79,7 @@ fn exist_row(vertices: &[VertexRow], row: ArcRow) -> bool
     rows::cell2(vertices, row[1], 0) != 0
 }
 
-fn pair_row(arcs: &[ArcRow], row: ArcRow, x: usize) -> bool
-    ensures { λ r. ⌜ r ≡ pairRow (now (arcs .entry)) row x ⌝ }
-{
-    if row[0] == 0 {
-        return true;
-    }
-    rows::wide(rows::find_arc(arcs, row[0], row[1])) == x
-}
-
+// An arc's edge joins its ends: the arc is one of the two that its edge names.
 fn joins_row(edges: &[EdgeRow], row: ArcRow, x: usize) -> bool
     ensures { λ r. ⌜ r ≡ joinsRow (now (edges .entry)) row x ⌝ }
 {
@@ -97,74 +96,47 @@ fn joins_row(edges: &[EdgeRow], row: ArcRow, x: usize) -> bool
     rows::wide(rows::cell3(edges, e, 2)) == x
 }
 
-// ---- every row
-
-// Each edge has both arcs: the two that it names are there, hold it, and have each other's ends swapped.
-pub fn both_arcs(arcs: &[ArcRow], edges: &[EdgeRow]) -> bool
-    ensures { λ r. ⌜ ((v : Table) (p : List (List Float)) (f : Table) (k : List ℕ) → r ≡ bothArcs (mesh v p (now (arcs .entry)) (now (edges .entry)) f k)) ⌝ }
+// What document 01 asks of an arc's ends and of its edge.
+pub fn ends_row(vertices: &[VertexRow], edges: &[EdgeRow], row: ArcRow, x: usize) -> bool
+    ensures { λ r. ⌜ r ≡ endsRow (now (vertices .entry)) (now (edges .entry)) row x ⌝ }
 {
-    let mut i = 0;
-    while i < edges.len() {
-        if !both_row(arcs, edges[i], i + 1) {
-            return false;
-        }
-        i += 1;
+    if !differ_row(row) {
+        return false;
     }
-    true
+    if !exist_row(vertices, row) {
+        return false;
+    }
+    joins_row(edges, row, x)
 }
 
-// Its ends differ.
-pub fn ends_differ(arcs: &[ArcRow]) -> bool
-    ensures { λ r. ⌜ ((v : Table) (p : List (List Float)) (e f : Table) (k : List ℕ) → r ≡ endsDiffer (mesh v p (now (arcs .entry)) e f k)) ⌝ }
+// ---- no two edges join the same pair
+
+// An edge's name: the ends of the arc that it names.
+fn edge_name(arcs: &[ArcRow], row: EdgeRow) -> u32
+    ensures { λ r. ⌜ r ≡ edgeName (now (arcs .entry)) row ⌝ }
 {
-    let mut i = 0;
-    while i < arcs.len() {
-        if !differ_row(arcs[i]) {
-            return false;
-        }
-        i += 1;
+    if row[0] == 0 {
+        return 0;
     }
-    true
+    names::pair_name(rows::cell6(arcs, row[1], 0), rows::cell6(arcs, row[1], 1))
 }
 
-// And exist.
-pub fn ends_exist(vertices: &[VertexRow], arcs: &[ArcRow]) -> bool
-    ensures { λ r. ⌜ ((p : List (List Float)) (e f : Table) (k : List ℕ) → r ≡ endsExist (mesh (now (vertices .entry)) p (now (arcs .entry)) e f k)) ⌝ }
+// The names of the edges, as many as the list has places.
+fn edge_names(names: &mut [u32], arcs: &[ArcRow], edges: &[EdgeRow])
+    ensures { λ _. ⌜ (length (now (edges .entry)) ≤ length (now (names .entry)) → take (length (now (edges .entry))) (now (names .exit)) ≡ map (edgeName (now (arcs .entry))) (now (edges .entry))) ⌝ }
 {
+    let n = names::lesser(names.len(), edges.len());
     let mut i = 0;
-    while i < arcs.len() {
-        if !exist_row(vertices, arcs[i]) {
-            return false;
-        }
+    while i < n {
+        names[i] = edge_name(arcs, edges[i]);
         i += 1;
     }
-    true
 }
 
-// No two edges join the same pair: each arc is the first with its ends.
-pub fn pairs_differ(arcs: &[ArcRow]) -> bool
-    ensures { λ r. ⌜ ((v : Table) (p : List (List Float)) (e f : Table) (k : List ℕ) → r ≡ pairsDiffer (mesh v p (now (arcs .entry)) e f k)) ⌝ }
+// No two edges join the same pair, where the rows of the tables are sound.
+pub fn pairs_differ(names: &mut [u32; ROWS], arcs: &[ArcRow], edges: &[EdgeRow]) -> bool
+    ensures { λ r. ⌜ ((v : Table) (p : List (List Float)) (f : Table) (k : List ℕ) → rowsSound (mesh v p (now (arcs .entry)) (now (edges .entry)) f k) ≡ true → r ≡ pairsDiffer (mesh v p (now (arcs .entry)) (now (edges .entry)) f k)) ⌝ }
 {
-    let mut i = 0;
-    while i < arcs.len() {
-        if !pair_row(arcs, arcs[i], i + 1) {
-            return false;
-        }
-        i += 1;
-    }
-    true
-}
-
-// Each arc's edge joins its ends: the arc is one of the two that its edge names.
-pub fn edge_joins(arcs: &[ArcRow], edges: &[EdgeRow]) -> bool
-    ensures { λ r. ⌜ ((v : Table) (p : List (List Float)) (f : Table) (k : List ℕ) → r ≡ edgeJoins (mesh v p (now (arcs .entry)) (now (edges .entry)) f k)) ⌝ }
-{
-    let mut i = 0;
-    while i < arcs.len() {
-        if !joins_row(edges, arcs[i], i + 1) {
-            return false;
-        }
-        i += 1;
-    }
-    true
+    edge_names(names, arcs, edges);
+    names::names_differ(names, edges.len())
 }

@@ -7,14 +7,9 @@ use rules::VertexRow;
 use tables::rows;
 ghost use mathlib.Core.Path.{_≡_};
 ghost use mathlib.Core.Bool.{_&&_};
-ghost use mathlib.Core.List.{List};
-ghost use Prim.Native.Nat.{ℕ};
-ghost use lib.Ieee.{Float};
 ghost use lib.Dec.{eqb};
-ghost use Rattle.rules.specs.Table.{Table, cell, there};
-ghost use Rattle.rules.specs.Mesh.{mesh};
-ghost use Rattle.rules.specs.Sound.{leadsOut, nextLeaves, previousArrives, faceExists};
-ghost use Rattle.sound.specs.Tests.{leadsRow, nextRow, previousRow, faceRow};
+ghost use Rattle.rules.specs.Table.{cell, there};
+ghost use Rattle.sound.specs.Tests.{leadsRow, nextRow, previousRow, faceRow, linksRow};
 
 // Whether an arc exists and has the value in the cell.
 pub fn arc_has(arcs: &[ArcRow], x: u32, c: usize, value: usize) -> bool
@@ -26,9 +21,10 @@ pub fn arc_has(arcs: &[ArcRow], x: u32, c: usize, value: usize) -> bool
     rows::wide(rows::cell6(arcs, x, c)) == value
 }
 
-// ---- one row
+// ---- one row: an unused row passes
 
-fn leads_row(arcs: &[ArcRow], row: VertexRow, v: usize) -> bool
+// A leading arc, unless none, exists and leaves its vertex.
+pub fn leads_row(arcs: &[ArcRow], row: VertexRow, v: usize) -> bool
     ensures { λ r. ⌜ r ≡ leadsRow (now (arcs .entry)) row v ⌝ }
 {
     if row[0] == 0 {
@@ -40,6 +36,7 @@ fn leads_row(arcs: &[ArcRow], row: VertexRow, v: usize) -> bool
     arc_has(arcs, row[1], 0, v)
 }
 
+// Next of (a,b), unless none, exists and leaves b.
 fn next_row(arcs: &[ArcRow], row: ArcRow) -> bool
     ensures { λ r. ⌜ r ≡ nextRow (now (arcs .entry)) row ⌝ }
 {
@@ -52,6 +49,7 @@ fn next_row(arcs: &[ArcRow], row: ArcRow) -> bool
     arc_has(arcs, row[2], 0, rows::wide(row[1]))
 }
 
+// Previous of (a,b), unless none, exists and arrives at a.
 fn previous_row(arcs: &[ArcRow], row: ArcRow) -> bool
     ensures { λ r. ⌜ r ≡ previousRow (now (arcs .entry)) row ⌝ }
 {
@@ -64,6 +62,7 @@ fn previous_row(arcs: &[ArcRow], row: ArcRow) -> bool
     arc_has(arcs, row[3], 1, rows::wide(row[0]))
 }
 
+// An arc's face, unless none, exists.
 fn face_row(faces: &[FaceRow], row: ArcRow) -> bool
     ensures { λ r. ⌜ r ≡ faceRow (now (faces .entry)) row ⌝ }
 {
@@ -76,60 +75,15 @@ fn face_row(faces: &[FaceRow], row: ArcRow) -> bool
     rows::cell3(faces, row[4], 0) != 0
 }
 
-// ---- every row
-
-// A leading arc, unless none, exists and leaves its vertex.
-pub fn leads_out(vertices: &[VertexRow], arcs: &[ArcRow]) -> bool
-    ensures { λ r. ⌜ ((p : List (List Float)) (e f : Table) (k : List ℕ) → r ≡ leadsOut (mesh (now (vertices .entry)) p (now (arcs .entry)) e f k)) ⌝ }
+// What document 01 asks of an arc's links.
+pub fn links_row(arcs: &[ArcRow], faces: &[FaceRow], row: ArcRow) -> bool
+    ensures { λ r. ⌜ r ≡ linksRow (now (arcs .entry)) (now (faces .entry)) row ⌝ }
 {
-    let mut i = 0;
-    while i < vertices.len() {
-        if !leads_row(arcs, vertices[i], i + 1) {
-            return false;
-        }
-        i += 1;
+    if !next_row(arcs, row) {
+        return false;
     }
-    true
-}
-
-// Next of (a,b), unless none, exists and leaves b.
-pub fn next_leaves(arcs: &[ArcRow]) -> bool
-    ensures { λ r. ⌜ ((v : Table) (p : List (List Float)) (e f : Table) (k : List ℕ) → r ≡ nextLeaves (mesh v p (now (arcs .entry)) e f k)) ⌝ }
-{
-    let mut i = 0;
-    while i < arcs.len() {
-        if !next_row(arcs, arcs[i]) {
-            return false;
-        }
-        i += 1;
+    if !previous_row(arcs, row) {
+        return false;
     }
-    true
-}
-
-// Previous of (a,b), unless none, exists and arrives at a.
-pub fn previous_arrives(arcs: &[ArcRow]) -> bool
-    ensures { λ r. ⌜ ((v : Table) (p : List (List Float)) (e f : Table) (k : List ℕ) → r ≡ previousArrives (mesh v p (now (arcs .entry)) e f k)) ⌝ }
-{
-    let mut i = 0;
-    while i < arcs.len() {
-        if !previous_row(arcs, arcs[i]) {
-            return false;
-        }
-        i += 1;
-    }
-    true
-}
-
-// An arc's face, unless none, exists.
-pub fn face_exists(arcs: &[ArcRow], faces: &[FaceRow]) -> bool
-    ensures { λ r. ⌜ ((v : Table) (p : List (List Float)) (e : Table) (k : List ℕ) → r ≡ faceExists (mesh v p (now (arcs .entry)) e (now (faces .entry)) k)) ⌝ }
-{
-    let mut i = 0;
-    while i < arcs.len() {
-        if !face_row(faces, arcs[i]) {
-            return false;
-        }
-        i += 1;
-    }
-    true
+    face_row(faces, row)
 }

@@ -1,11 +1,11 @@
 // All of "Sound means" in one answer, and the three queries: check_sound, check_finished, face_arity. They change nothing and need no room.
 // It carries document 01's answers 1 ("a table is unsound or over the limit"), 3 of the finished check and 4 of an unknown face.
 
-use crate::blanks;
 use crate::edges;
 use crate::faces;
 use crate::keys;
-use crate::links;
+use crate::passes;
+use names::ROWS;
 use rules::Answer;
 use rules::ArcRow;
 use rules::EdgeRow;
@@ -18,76 +18,47 @@ use tables::sets;
 use walks::rings;
 ghost use mathlib.Core.Path.{_≡_};
 ghost use mathlib.Core.Bool.{not};
-ghost use mathlib.Core.List.{List};
 ghost use Prim.Native.Nat.{ℕ, _≤_};
 ghost use lib.ListN.{length};
-ghost use lib.Ieee.{Float};
 ghost use Rattle.rules.specs.Table.{every};
 ghost use Rattle.rules.specs.Mesh.{Mesh, mesh, faceArc};
 ghost use Rattle.rules.specs.Link as Link;
 ghost use Rattle.rules.specs.Sound.{sound};
 ghost use Rattle.rules.specs.Call.{checkSound, checkFinished, faceArity, leadless};
-ghost use Rattle.sound.specs.Parts.{rowsSound, linksSound};
+ghost use Rattle.sound.specs.Parts.{rowsSound, heldIf};
 
-// ---- soundness, the cheapest first
+// ---- soundness
 
-// Sizes, and what one pass over each table tells.
-fn rows_sound(
+// Sizes, and what one pass over each table tells: how many arcs hold a face, plus one, or 0 where some row fails.
+fn rows_held(
     vertices: &[VertexRow],
     positions: &[PositionRow],
     arcs: &[ArcRow],
     edges: &[EdgeRow],
     faces: &[FaceRow],
     counters: &[u32; 3],
-) -> bool
-    ensures { λ r. ⌜ r ≡ rowsSound (mesh (now (vertices .entry)) (now (positions .entry)) (now (arcs .entry)) (now (edges .entry)) (now (faces .entry)) (now (counters .entry))) ⌝ }
+) -> usize
+    ensures { λ r. ⌜ r ≡ heldIf (rowsSound (mesh (now (vertices .entry)) (now (positions .entry)) (now (arcs .entry)) (now (edges .entry)) (now (faces .entry)) (now (counters .entry)))) (now (arcs .entry)) ⌝ }
 {
     if !sets::within_limits(vertices, positions, arcs, edges, faces) {
-        return false;
+        return 0;
     }
-    if !keys::keys_below(vertices, edges, faces, counters) {
-        return false;
+    if !passes::vertices_sound(vertices, arcs, counters) {
+        return 0;
     }
-    if !blanks::all_finite(positions) {
-        return false;
+    if !passes::positions_sound(vertices, positions) {
+        return 0;
     }
-    blanks::rest_zero(vertices, positions, arcs, edges, faces)
+    if !passes::edges_sound(arcs, edges, counters) {
+        return 0;
+    }
+    if !passes::faces_sound(faces, counters) {
+        return 0;
+    }
+    passes::arcs_held(vertices, arcs, edges, faces)
 }
 
-// What one pass along the links tells.
-fn links_sound(
-    vertices: &[VertexRow],
-    arcs: &[ArcRow],
-    edges: &[EdgeRow],
-    faces: &[FaceRow],
-) -> bool
-    ensures { λ r. ⌜ ((p : List (List Float)) (k : List ℕ) → r ≡ linksSound (mesh (now (vertices .entry)) p (now (arcs .entry)) (now (edges .entry)) (now (faces .entry)) k)) ⌝ }
-{
-    if !edges::ends_differ(arcs) {
-        return false;
-    }
-    if !edges::ends_exist(vertices, arcs) {
-        return false;
-    }
-    if !edges::both_arcs(arcs, edges) {
-        return false;
-    }
-    if !edges::edge_joins(arcs, edges) {
-        return false;
-    }
-    if !links::leads_out(vertices, arcs) {
-        return false;
-    }
-    if !links::next_leaves(arcs) {
-        return false;
-    }
-    if !links::previous_arrives(arcs) {
-        return false;
-    }
-    links::face_exists(arcs, faces)
-}
-
-// Whether the tables are sound: sizes, passes, rings, and last what may compare rows with rows.
+// Whether the tables are sound: sizes and rows first, on which the rest stands.
 pub fn is_sound(
     vertices: &[VertexRow],
     positions: &[PositionRow],
@@ -98,19 +69,18 @@ pub fn is_sound(
 ) -> bool
     ensures { λ r. ⌜ r ≡ sound (mesh (now (vertices .entry)) (now (positions .entry)) (now (arcs .entry)) (now (edges .entry)) (now (faces .entry)) (now (counters .entry))) ⌝ }
 {
-    if !rows_sound(vertices, positions, arcs, edges, faces, counters) {
+    let held = rows_held(vertices, positions, arcs, edges, faces, counters);
+    if held == 0 {
         return false;
     }
-    if !links_sound(vertices, arcs, edges, faces) {
+    if !faces::rings_sound(arcs, faces, held - 1) {
         return false;
     }
-    if !faces::rings_sound(arcs, faces) {
+    let mut names = [0u32; ROWS];
+    if !keys::keys_differ(&mut names, vertices, edges, faces) {
         return false;
     }
-    if !keys::keys_differ(vertices, edges, faces) {
-        return false;
-    }
-    edges::pairs_differ(arcs)
+    edges::pairs_differ(&mut names, arcs, edges)
 }
 
 // ---- the queries

@@ -14,15 +14,22 @@ use Rattle.rules.specs.Mesh.{mesh, listOf}
 use Rattle.rules.specs.Insert.{conflict}
 use Rattle.checks.proofs.Below.{some-more, some-here}
 use Rattle.checks.proofs.Pairs.{clash}
+use Rattle.pairs.proofs.Listed.{arcs-held}
 
 abbrev Inv-loop : tie.InvT-loop
-Inv-loop arcs per n i₀ i = (i ≤ n) × ((vs : Table) (ps : List (List Float)) (es fs : Table) (ks : List ℕ) → someBelow (clash (mesh vs ps arcs es fs ks) (listOf per)) i ≡ false)
+Inv-loop arcs per n xs i₀ i = (i ≤ n) × ((vs : Table) (ps : List (List Float)) (es fs : Table) (ks : List ℕ) → someBelow (clash (mesh vs ps arcs es fs ks) (listOf per)) i ≡ false)
 
 abbrev μ-loop : tie.MeasureT-loop
-μ-loop arcs per n i₀ i = n - i
+μ-loop arcs per n xs i₀ i = n - i
 
 size-requires : tie.Need-size-requires Inv-loop μ-loop
 size-requires c κs = search needs
+
+known-few-requires : tie.Need-known-few-requires Inv-loop μ-loop
+known-few-requires c κs = search needs
+
+perimeter-arcs-requires : tie.Need-perimeter-arcs-requires Inv-loop μ-loop
+perimeter-arcs-requires c κs = search needs
 
 loop-holds : tie.Need-loop-holds Inv-loop μ-loop
 unfolding someBelow
@@ -34,9 +41,10 @@ has-face-requires c κs = search needs
 returns : tie.Need-returns Inv-loop μ-loop
 unfolding conflict
 returns c =
-    let a = c .before .before .before .before .before .args in
     let l = c .before .before .before in
-    λ vs ps es fs ks. sym (some-here (clash (mesh vs ps (a .arcs .now) es fs ks) (listOf (a .per))) (length (listOf (a .per))) (l .loop .i) (omega (arith, c .before .before .before .before .size .ensures)) (rw (sym (c .before .has-face .ensures vs ps es fs ks) ∙ c .if1 .taken)))
+    let a = l .before .before .before .before .args in
+    let held = arcs-held (a .arcs .now) (listOf (a .per)) (l .before .perimeter-arcs .result) (l .before .before .known-few .ensures) (l .before .perimeter-arcs .ensures) in
+    λ vs ps es fs ks. sym (some-here (clash (mesh vs ps (a .arcs .now) es fs ks) (listOf (a .per))) (length (listOf (a .per))) (l .loop .i) (omega (arith, l .before .before .before .size .ensures)) (rw (sym (c .before .has-face .ensures vs ps es fs ks (listOf (a .per)) held) ∙ c .if1 .taken)))
 
 leads-back-requires : tie.Need-leads-back-requires Inv-loop μ-loop
 leads-back-requires c κs = search needs
@@ -44,9 +52,10 @@ leads-back-requires c κs = search needs
 returns-2 : tie.Need-returns-2 Inv-loop μ-loop
 unfolding conflict
 returns-2 c =
-    let a = c .before .before .before .before .before .before .before .args in
     let l = c .before .before .before .before .before in
-    λ vs ps es fs ks. sym (some-here (clash (mesh vs ps (a .arcs .now) es fs ks) (listOf (a .per))) (length (listOf (a .per))) (l .loop .i) (omega (arith, c .before .before .before .before .before .before .size .ensures)) (rw (sym (c .before .before .before .has-face .ensures vs ps es fs ks) ∙ c .before .before .if1 .left, sym (c .before .leads-back .ensures vs ps es fs ks) ∙ c .if2 .taken)))
+    let a = l .before .before .before .before .args in
+    let held = arcs-held (a .arcs .now) (listOf (a .per)) (l .before .perimeter-arcs .result) (l .before .before .known-few .ensures) (l .before .perimeter-arcs .ensures) in
+    λ vs ps es fs ks. sym (some-here (clash (mesh vs ps (a .arcs .now) es fs ks) (listOf (a .per))) (length (listOf (a .per))) (l .loop .i) (omega (arith, l .before .before .before .size .ensures)) (rw (sym (c .before .before .before .has-face .ensures vs ps es fs ks (listOf (a .per)) held) ∙ c .before .before .if1 .left, sym (c .before .leads-back .ensures vs ps es fs ks held) ∙ c .if2 .taken)))
 
 add-i : tie.Need-add-i Inv-loop μ-loop
 add-i c = search needs
@@ -56,15 +65,16 @@ loop-less c = search needs
 
 loop-again : tie.Need-loop-again Inv-loop μ-loop
 loop-again c =
-    let a = c .before .before .before .before .before .before .before .args in
     let l = c .before .before .before .before .before in
-    (search needs, λ vs ps es fs ks. some-more (clash (mesh vs ps (a .arcs .now) es fs ks) (listOf (a .per))) (l .loop .i) (l .loop .inv .1 vs ps es fs ks) (rw (sym (c .before .before .before .has-face .ensures vs ps es fs ks) ∙ c .before .before .if1 .left, sym (c .before .leads-back .ensures vs ps es fs ks) ∙ c .if2 .left)))
+    let a = l .before .before .before .before .args in
+    let held = arcs-held (a .arcs .now) (listOf (a .per)) (l .before .perimeter-arcs .result) (l .before .before .known-few .ensures) (l .before .perimeter-arcs .ensures) in
+    (search needs, λ vs ps es fs ks. some-more (clash (mesh vs ps (a .arcs .now) es fs ks) (listOf (a .per))) (l .loop .i) (l .loop .inv .1 vs ps es fs ks) (rw (sym (c .before .before .before .has-face .ensures vs ps es fs ks (listOf (a .per)) held) ∙ c .before .before .if1 .left, sym (c .before .leads-back .ensures vs ps es fs ks held) ∙ c .if2 .left)))
 
 returns-3 : tie.Need-returns-3 Inv-loop μ-loop
 unfolding conflict
 returns-3 c =
     let l = c .before in
-    let all : l .loop .i ≡ length (listOf (c .before .before .before .args .per)) = omega (arith, c .before .before .size .ensures) in
+    let all : l .loop .i ≡ length (listOf (l .before .before .before .before .args .per)) = omega (arith, l .before .before .before .size .ensures) in
     λ vs ps es fs ks. sym (rw all at (l .loop .inv .1 vs ps es fs ks))
 
 pub conflict-spec : {M : Type 1} → statement M
@@ -74,6 +84,8 @@ conflict-spec =
     Inv-loop
     μ-loop
     size-requires
+    known-few-requires
+    perimeter-arcs-requires
     loop-holds
     has-face-requires
     returns

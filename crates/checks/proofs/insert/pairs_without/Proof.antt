@@ -12,30 +12,38 @@ use Rattle.rules.specs.Table.{Table, sumBelow}
 use Rattle.rules.specs.Mesh.{mesh, listOf}
 use Rattle.rules.specs.Call.{pairsWithout}
 use Rattle.checks.proofs.Below.{sum-more, one-or-none}
-use Rattle.checks.proofs.Pairs.{missing}
+use Rattle.checks.proofs.Pairs.{arc-listed, missing}
+use Rattle.pairs.specs.Pairs.{arcsOf}
+use Rattle.pairs.proofs.Listed.{arcs-held}
 
 abbrev Inv-loop : tie.InvT-loop
-Inv-loop arcs per n sum₀ i₀ sum i = (sum ≤ i) × ((i ≤ n) × ((vs : Table) (ps : List (List Float)) (es fs : Table) (ks : List ℕ) → sum ≡ sumBelow (missing (mesh vs ps arcs es fs ks) (listOf per)) i))
+Inv-loop arcs n xs sum₀ i₀ sum i = (sum ≤ i) × ((i ≤ n) × ((vs : Table) (ps : List (List Float)) (es fs : Table) (ks per : List ℕ) → listOf xs ≡ arcsOf arcs per → sum ≡ sumBelow (missing (mesh vs ps arcs es fs ks) per) i))
 
 abbrev μ-loop : tie.MeasureT-loop
-μ-loop arcs per n sum₀ i₀ sum i = n - i
+μ-loop arcs n xs sum₀ i₀ sum i = n - i
 
 size-requires : tie.Need-size-requires Inv-loop μ-loop
 size-requires c κs = search needs
 
+known-few-requires : tie.Need-known-few-requires Inv-loop μ-loop
+known-few-requires c κs = search needs
+
+perimeter-arcs-requires : tie.Need-perimeter-arcs-requires Inv-loop μ-loop
+perimeter-arcs-requires c κs = search needs
+
 loop-holds : tie.Need-loop-holds Inv-loop μ-loop
 unfolding sumBelow
-loop-holds c = (search needs, (search needs, λ vs ps es fs ks. refl))
+loop-holds c = (search needs, (search needs, λ vs ps es fs ks per e. refl))
 
-arc-at-requires : tie.Need-arc-at-requires Inv-loop μ-loop
-arc-at-requires c κs = search needs
+item-requires : tie.Need-item-requires Inv-loop μ-loop
+item-requires c κs = search needs
 
 one-if-none-requires : tie.Need-one-if-none-requires Inv-loop μ-loop
 one-if-none-requires c κs = search needs
 
 add-sum : tie.Need-add-sum Inv-loop μ-loop
 add-sum c =
-    let few : c .one-if-none .result ≤ 1 = one-or-none (c .one-if-none .result) (c .before .arc-at .result) (c .one-if-none .ensures) in
+    let few : c .one-if-none .result ≤ 1 = one-or-none (c .one-if-none .result) (c .before .item .result) (c .one-if-none .ensures) in
     omega arith
 
 add-i : tie.Need-add-i Inv-loop μ-loop
@@ -46,17 +54,27 @@ loop-less c = search needs
 
 loop-again : tie.Need-loop-again Inv-loop μ-loop
 loop-again c =
-    let a = c .before .before .before .before .before .args in
     let l = c .before .before .before in
-    let few : c .one-if-none .result ≤ 1 = one-or-none (c .one-if-none .result) (c .before .arc-at .result) (c .one-if-none .ensures) in
-    (omega arith, (search needs, λ vs ps es fs ks. sum-more (missing (mesh vs ps (a .arcs .now) es fs ks) (listOf (a .per))) (l .loop .i) (l .loop .sum) (c .one-if-none .result) (l .loop .inv .1 .1 vs ps es fs ks) (rw (← c .before .arc-at .ensures vs ps es fs ks) (c .one-if-none .ensures))))
+    let a = l .before .before .before .before .args in
+    let xs = l .before .perimeter-arcs .result in
+    let few : c .one-if-none .result ≤ 1 = one-or-none (c .one-if-none .result) (c .before .item .result) (c .one-if-none .ensures) in (
+      omega arith,
+      (
+        search needs,
+        λ vs ps es fs ks per e.
+            let pair = arc-listed (mesh vs ps (a .arcs .now) es fs ks) per xs (l .loop .i) (c .before .item .result) e (c .before .item .ensures) in
+            sum-more (missing (mesh vs ps (a .arcs .now) es fs ks) per) (l .loop .i) (l .loop .sum) (c .one-if-none .result) (l .loop .inv .1 .1 vs ps es fs ks per e) (rw (← pair) (c .one-if-none .ensures)),
+      ),
+    )
 
 returns : tie.Need-returns Inv-loop μ-loop
 unfolding pairsWithout
 returns c =
     let l = c .before in
-    let all : l .loop .i ≡ length (listOf (c .before .before .before .args .per)) = omega (arith, c .before .before .size .ensures) in
-    λ vs ps es fs ks. rw all at (l .loop .inv .1 .1 vs ps es fs ks)
+    let a = l .before .before .before .before .args in
+    let all : l .loop .i ≡ length (listOf (a .per)) = omega (arith, l .before .before .before .size .ensures) in
+    let held = arcs-held (a .arcs .now) (listOf (a .per)) (l .before .perimeter-arcs .result) (l .before .before .known-few .ensures) (l .before .perimeter-arcs .ensures) in
+    λ vs ps es fs ks. rw all at (l .loop .inv .1 .1 vs ps es fs ks (listOf (a .per)) held)
 
 pub pairs-without-spec : {M : Type 1} → statement M
 pairs-without-spec =
@@ -65,8 +83,10 @@ pairs-without-spec =
     Inv-loop
     μ-loop
     size-requires
+    known-few-requires
+    perimeter-arcs-requires
     loop-holds
-    arc-at-requires
+    item-requires
     one-if-none-requires
     add-sum
     add-i

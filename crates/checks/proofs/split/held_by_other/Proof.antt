@@ -14,19 +14,27 @@ use Rattle.rules.specs.Mesh.{mesh, listOf}
 use Rattle.rules.specs.Edit.{heldByOther}
 use Rattle.checks.proofs.Below.{some-more, some-here}
 use Rattle.checks.proofs.Pairs.{taken}
+use Rattle.pairs.specs.Pairs.{arcsOf}
+use Rattle.pairs.proofs.Listed.{arcs-held}
 
 abbrev Inv-loop : tie.InvT-loop
-Inv-loop arcs f per n i₀ i = (i ≤ n) × ((vs : Table) (ps : List (List Float)) (es fs : Table) (ks : List ℕ) → someBelow (taken (mesh vs ps arcs es fs ks) f (listOf per)) i ≡ false)
+Inv-loop arcs f n xs i₀ i = (i ≤ n) × ((vs : Table) (ps : List (List Float)) (es fs : Table) (ks per : List ℕ) → listOf xs ≡ arcsOf arcs per → someBelow (taken (mesh vs ps arcs es fs ks) f per) i ≡ false)
 
 abbrev μ-loop : tie.MeasureT-loop
-μ-loop arcs f per n i₀ i = n - i
+μ-loop arcs f n xs i₀ i = n - i
 
 size-requires : tie.Need-size-requires Inv-loop μ-loop
 size-requires c κs = search needs
 
+known-few-requires : tie.Need-known-few-requires Inv-loop μ-loop
+known-few-requires c κs = search needs
+
+perimeter-arcs-requires : tie.Need-perimeter-arcs-requires Inv-loop μ-loop
+perimeter-arcs-requires c κs = search needs
+
 loop-holds : tie.Need-loop-holds Inv-loop μ-loop
 unfolding someBelow
-loop-holds c = (search needs, λ vs ps es fs ks. refl)
+loop-holds c = (search needs, λ vs ps es fs ks per e. refl)
 
 other-holds-requires : tie.Need-other-holds-requires Inv-loop μ-loop
 other-holds-requires c κs = search needs
@@ -34,9 +42,10 @@ other-holds-requires c κs = search needs
 returns : tie.Need-returns Inv-loop μ-loop
 unfolding heldByOther
 returns c =
-    let a = c .before .before .before .before .before .args in
     let l = c .before .before .before in
-    λ vs ps es fs ks. sym (some-here (taken (mesh vs ps (a .arcs .now) es fs ks) (a .f) (listOf (a .per))) (length (listOf (a .per))) (l .loop .i) (omega (arith, c .before .before .before .before .size .ensures)) (sym (c .before .other-holds .ensures vs ps es fs ks) ∙ c .if1 .taken))
+    let a = l .before .before .before .before .args in
+    let held = arcs-held (a .arcs .now) (listOf (a .per)) (l .before .perimeter-arcs .result) (l .before .before .known-few .ensures) (l .before .perimeter-arcs .ensures) in
+    λ vs ps es fs ks. sym (some-here (taken (mesh vs ps (a .arcs .now) es fs ks) (a .f) (listOf (a .per))) (length (listOf (a .per))) (l .loop .i) (omega (arith, l .before .before .before .size .ensures)) (sym (c .before .other-holds .ensures vs ps es fs ks (listOf (a .per)) held) ∙ c .if1 .taken))
 
 add-i : tie.Need-add-i Inv-loop μ-loop
 add-i c = search needs
@@ -46,16 +55,18 @@ loop-less c = search needs
 
 loop-again : tie.Need-loop-again Inv-loop μ-loop
 loop-again c =
-    let a = c .before .before .before .before .before .args in
     let l = c .before .before .before in
-    (search needs, λ vs ps es fs ks. some-more (taken (mesh vs ps (a .arcs .now) es fs ks) (a .f) (listOf (a .per))) (l .loop .i) (l .loop .inv .1 vs ps es fs ks) (sym (c .before .other-holds .ensures vs ps es fs ks) ∙ c .if1 .left))
+    let a = l .before .before .before .before .args in
+    (search needs, λ vs ps es fs ks per e. some-more (taken (mesh vs ps (a .arcs .now) es fs ks) (a .f) per) (l .loop .i) (l .loop .inv .1 vs ps es fs ks per e) (sym (c .before .other-holds .ensures vs ps es fs ks per e) ∙ c .if1 .left))
 
 returns-2 : tie.Need-returns-2 Inv-loop μ-loop
 unfolding heldByOther
 returns-2 c =
     let l = c .before in
-    let all : l .loop .i ≡ length (listOf (c .before .before .before .args .per)) = omega (arith, c .before .before .size .ensures) in
-    λ vs ps es fs ks. sym (rw all at (l .loop .inv .1 vs ps es fs ks))
+    let a = l .before .before .before .before .args in
+    let all : l .loop .i ≡ length (listOf (a .per)) = omega (arith, l .before .before .before .size .ensures) in
+    let held = arcs-held (a .arcs .now) (listOf (a .per)) (l .before .perimeter-arcs .result) (l .before .before .known-few .ensures) (l .before .perimeter-arcs .ensures) in
+    λ vs ps es fs ks. sym (rw all at (l .loop .inv .1 vs ps es fs ks (listOf (a .per)) held))
 
 pub held-by-other-spec : {M : Type 1} → statement M
 held-by-other-spec =
@@ -64,6 +75,8 @@ held-by-other-spec =
     Inv-loop
     μ-loop
     size-requires
+    known-few-requires
+    perimeter-arcs-requires
     loop-holds
     other-holds-requires
     returns

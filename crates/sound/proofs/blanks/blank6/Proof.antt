@@ -1,3 +1,4 @@
+use Rattle.sound.specs.Tests.{blankRow}
 use borrow.Author.Tests.{eq-eqb, ne-eqb}
 use borrow.Author.Needs.{needs}
 use Rattle.sound.proofs.blanks.blank6.Statement.{statement}
@@ -7,6 +8,7 @@ array-read-if1 : tie.Need-array-read-if1
 array-read-if1 c = search needs
 
 returns : tie.Need-returns
+unfolding blankRow
 returns c = rw (ne-eqb _ _ (c .if1 .taken))
 
 slice-aggregate-zero-cells : tie.Need-slice-aggregate-zero-cells
@@ -16,6 +18,7 @@ zero-cells-requires : tie.Need-zero-cells-requires
 zero-cells-requires c κs = search needs
 
 returns-2 : tie.Need-returns-2
+unfolding blankRow
 returns-2 c = rw (eq-eqb _ _ (c .before .before .if1 .left)) (c .zero-cells .ensures)
 
 pub blank6-spec : {M : Type 1} → statement M

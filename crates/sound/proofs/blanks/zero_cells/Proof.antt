@@ -3,7 +3,7 @@ use native.Mathlib.Omega.{arith}
 use mathlib.Core.Path.{sym, _∙_}
 use lib.ListN.{length, getD}
 use borrow.Author.Tests.{eq-eqb, ne-eqb}
-use Rattle.sound.proofs.Loops.{Passed, none-yet, one-more, all-passed, one-failed}
+use Rattle.names.proofs.Loops.{Passed, none-yet, one-more, all-passed, one-failed}
 use Rattle.sound.proofs.Rows as laws
 use lib.Dec.{eqb}
 use borrow.Author.Needs.{needs}

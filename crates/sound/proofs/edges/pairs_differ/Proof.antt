@@ -1,75 +1,27 @@
-use Prim.Native.Nat.{_+_, _-_, _≤_}
 use native.Mathlib.Omega.{arith}
-use mathlib.Core.Path.{sym, _∙_}
-use mathlib.Core.List.{[]}
-use lib.ListN.{length, getD}
-use borrow.Author.Tests.{not-true, not-false}
+use mathlib.Core.Path.{_∙_}
 use Rattle.rules.specs.Mesh.{mesh}
-use Rattle.sound.proofs.Loops.{Passed, none-yet, one-more, all-passed, one-failed}
-use Rattle.sound.proofs.Rows as laws
-use Rattle.sound.specs.Tests.{pairRow}
+use Rattle.proved.proofs.Rows.{true-T}
+use Rattle.proved.proofs.SoundParts.{sizes}
+use Rattle.sound.proofs.Groups.{rows-tell, edges-told, ends-told}
+use Rattle.sound.proofs.Named.{pairs-differ}
 use borrow.Author.Needs.{needs}
 use Rattle.sound.proofs.edges.pairs_differ.Statement.{statement}
 use Rattle.sound.proofs.edges.pairs_differ.Tie as tie
 
-abbrev Inv-loop : tie.InvT-loop
-Inv-loop arcs i₀ i = (i ≤ length arcs) × Passed (λ j. pairRow arcs (getD arcs j []) (j + 1)) i
+edge-names-requires : tie.Need-edge-names-requires
+edge-names-requires c κs = search needs
 
-abbrev μ-loop : tie.MeasureT-loop
-μ-loop arcs i₀ i = length arcs - i
+names-differ-requires : tie.Need-names-differ-requires
+names-differ-requires c κs = search needs
 
-loop-holds : tie.Need-loop-holds Inv-loop μ-loop
-loop-holds c = (search needs, none-yet (λ j. pairRow (c .args .arcs .now) (getD (c .args .arcs .now) j []) (j + 1)))
-
-mul-pair-row : tie.Need-mul-pair-row Inv-loop μ-loop
-mul-pair-row c = search needs
-
-shared-slice-copy-out-pair-row : tie.Need-shared-slice-copy-out-pair-row Inv-loop μ-loop
-shared-slice-copy-out-pair-row c = search needs
-
-add-pair-row : tie.Need-add-pair-row Inv-loop μ-loop
-add-pair-row c = search needs
-
-pair-row-requires : tie.Need-pair-row-requires Inv-loop μ-loop
-pair-row-requires c κs = search needs
-
-returns : tie.Need-returns Inv-loop μ-loop
+returns : tie.Need-returns
 returns c =
-    let l = c .before .before .before .before in
-    let a = l .before .args in
-    λ v p e f k. one-failed (λ j. pairRow (a .arcs .now) (getD (a .arcs .now) j []) (j + 1)) (length (a .arcs .now)) (l .loop .i) (omega arith) (sym (c .before .pair-row .ensures) ∙ not-true _ (c .if1 .taken)) ∙ sym (laws.pairs-differ (mesh v p (a .arcs .now) e f k))
-
-add-i : tie.Need-add-i Inv-loop μ-loop
-add-i c = search needs
-
-loop-less : tie.Need-loop-less Inv-loop μ-loop
-loop-less c = search needs
-
-loop-again : tie.Need-loop-again Inv-loop μ-loop
-loop-again c =
-    let l = c .before .before .before .before in
-    let a = l .before .args in
-    (search needs, one-more (λ j. pairRow (a .arcs .now) (getD (a .arcs .now) j []) (j + 1)) (l .loop .i) (l .loop .inv .1) (sym (c .before .pair-row .ensures) ∙ not-false _ (c .if1 .left)))
-
-returns-2 : tie.Need-returns-2 Inv-loop μ-loop
-returns-2 c =
-    let l = c .before in
-    let a = l .before .args in
-    λ v p e f k. all-passed (λ j. pairRow (a .arcs .now) (getD (a .arcs .now) j []) (j + 1)) (length (a .arcs .now)) (l .loop .i) (omega arith) (omega arith) (l .loop .inv .1) ∙ sym (laws.pairs-differ (mesh v p (a .arcs .now) e f k))
+    let a = c .before .before .before .before .args in
+    let k = c .before .before .edge-names in
+    λ v p f n h. let m = mesh v p (a .arcs .now) (a .edges .now) f n in
+    let s = sizes m (rows-tell m (true-T h) .within-limits) in
+    c .names-differ .ensures (s .edge-rows) ∙ pairs-differ m (edges-told m h) (ends-told m h) (s .vertex-rows) (k .last .0) (k .ensures (omega arith)) (omega arith)
 
 pub pairs-differ-spec : {M : Type 1} → statement M
-pairs-differ-spec =
-    tie.close
-    (tie.spec
-    Inv-loop
-    μ-loop
-    loop-holds
-    mul-pair-row
-    shared-slice-copy-out-pair-row
-    add-pair-row
-    pair-row-requires
-    returns
-    add-i
-    loop-less
-    loop-again
-    returns-2)
+pairs-differ-spec = tie.close (tie.spec edge-names-requires names-differ-requires returns)

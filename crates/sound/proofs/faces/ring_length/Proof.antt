@@ -1,130 +1,100 @@
-use mathlib.Core.Path.{_≡_, sym, _∙_}
-use lib.ListN.{length}
+use Prim.Native.Nat.{_-_}
+use native.Mathlib.Omega.{arith}
+use mathlib.Core.Path.{sym, _∙_}
 use borrow.Author.Tests.{not-true, not-false}
-use Rattle.rules.specs.Mesh.{listOf}
-use Rattle.rules.specs.Link.{ring, ringEnded}
-use Rattle.sound.specs.Rings.{ringWhole, ringLength}
-use Rattle.sound.proofs.RingRows.{ring-held, ring-ended, ring-len}
+use Rattle.sound.proofs.RingWalk.{Going, going-start, going-on, arc-out, source-out, back-out, end-out}
 use borrow.Author.Needs.{needs}
 use Rattle.sound.proofs.faces.ring_length.Statement.{statement}
 use Rattle.sound.proofs.faces.ring_length.Tie as tie
 
-names-holder-requires : tie.Need-names-holder-requires
-names-holder-requires c κs = search needs
+abbrev Inv-loop : tie.InvT-loop
+Inv-loop sources₀ arcs first f n₀ x₀ sources n x = Going arcs first f sources n x
 
-returns : tie.Need-returns
-unfolding ringWhole ringLength
+abbrev μ-loop : tie.MeasureT-loop
+μ-loop sources₀ arcs first f n₀ x₀ sources n x = 64 - n
+
+known-places-requires : tie.Need-known-places-requires Inv-loop μ-loop
+known-places-requires c κs = search needs
+
+loop-holds : tie.Need-loop-holds Inv-loop μ-loop
+loop-holds c = let a = c .before .before .args in going-start (a .arcs .now) (a .first) (a .f) (a .sources .now) (c .known-places .ensures)
+
+arc-on-ring-requires : tie.Need-arc-on-ring-requires Inv-loop μ-loop
+arc-on-ring-requires c κs = search needs
+
+returns : tie.Need-returns Inv-loop μ-loop
 returns c =
-    let a = c .before .before .args in
-    let f = a .f in
-    λ m ea ef.
-    rw (sym (c .before .names-holder .ensures m ea ef) ∙ not-true _ (c .if1 .taken))
+    let l = c .before .before .before in
+    let a = l .before .before .before .args in
+    arc-out (a .arcs .now) (a .first) (a .f) (l .loop .sources) (l .loop .n) (l .loop .x) (l .loop .inv) (sym (c .before .arc-on-ring .ensures) ∙ not-true _ (c .if1 .taken))
 
-ring-requires : tie.Need-ring-requires
-ring-requires c κs = search needs
+cell6-requires : tie.Need-cell6-requires Inv-loop μ-loop
+cell6-requires c κs = search needs
 
-comes-back-requires : tie.Need-comes-back-requires
-comes-back-requires c κs = search needs
+new-source-requires : tie.Need-new-source-requires Inv-loop μ-loop
+new-source-requires c κs = search needs
 
-returns-2 : tie.Need-returns-2
-unfolding ringWhole ringLength
+returns-2 : tie.Need-returns-2 Inv-loop μ-loop
 returns-2 c =
-    let a = c .before .before .before .before .before .before .args in
-    let f = a .f in
-    let w = c .before .before .before .ring in
-    λ m ea ef.
-    let rh : ring m f ≡ listOf (w .result .links) = ring-held m f (a .arcs .now) (a .first) (w .result) ea ef (w .ensures) in
-    let re : ringEnded m f ≡ w .result .ended = ring-ended m f (a .arcs .now) (a .first) (w .result) ea ef (w .ensures) in
-    let rl : length (ring m f) ≡ w .result .links .len = ring-len m f (a .arcs .now) (a .first) (w .result) ea ef (w .ensures) in
-    rw (sym (c .before .before .before .before .before .names-holder .ensures m ea ef) ∙ not-false _ (c .before .before .before .before .if1 .left), sym (c .before .comes-back .ensures m f re) ∙ not-true _ (c .if2 .taken))
+    let l = c .before .before .before .before .before .before .before in
+    let a = l .before .before .before .args in
+    source-out (a .arcs .now) (a .first) (a .f) (l .loop .sources) (l .loop .n) (l .loop .x) (l .loop .inv) (c .before .before .before .cell6 .result) (c .before .before .before .cell6 .ensures) (sym (c .before .new-source .ensures) ∙ not-true _ (c .if2 .taken))
 
-three-to-limit-requires : tie.Need-three-to-limit-requires
-three-to-limit-requires c κs = search needs
+mul-sources : tie.Need-mul-sources Inv-loop μ-loop
+mul-sources c = search needs
 
-returns-3 : tie.Need-returns-3
-unfolding ringWhole ringLength
+element-write-sources : tie.Need-element-write-sources Inv-loop μ-loop
+element-write-sources c = search needs
+
+add-n : tie.Need-add-n Inv-loop μ-loop
+add-n c = search needs
+
+cell6-requires-2 : tie.Need-cell6-requires-2 Inv-loop μ-loop
+cell6-requires-2 c κs = search needs
+
+three-or-none-requires : tie.Need-three-or-none-requires Inv-loop μ-loop
+three-or-none-requires c κs = search needs
+
+returns-3 : tie.Need-returns-3 Inv-loop μ-loop
 returns-3 c =
-    let a = c .before .before .before .before .before .before .before .before .args in
-    let f = a .f in
-    let w = c .before .before .before .before .before .ring in
-    λ m ea ef.
-    let rh : ring m f ≡ listOf (w .result .links) = ring-held m f (a .arcs .now) (a .first) (w .result) ea ef (w .ensures) in
-    let re : ringEnded m f ≡ w .result .ended = ring-ended m f (a .arcs .now) (a .first) (w .result) ea ef (w .ensures) in
-    let rl : length (ring m f) ≡ w .result .links .len = ring-len m f (a .arcs .now) (a .first) (w .result) ea ef (w .ensures) in
-    rw (sym (c .before .before .before .before .before .before .before .names-holder .ensures m ea ef) ∙ not-false _ (c .before .before .before .before .before .before .if1 .left), sym (c .before .before .before .comes-back .ensures m f re) ∙ not-false _ (c .before .before .if2 .left), sym (c .before .three-to-limit .ensures m f rl) ∙ not-true _ (c .if3 .taken))
+    let l = c .before .before .before .before .before .before .before .before .before .before in
+    let a = l .before .before .before .args in
+    λ m ea ef. c .three-or-none .ensures ∙ back-out (a .arcs .now) (a .first) (a .f) (l .loop .sources) (l .loop .n) (l .loop .x) (l .loop .inv) (c .before .before .before .before .before .before .cell6 .result) (c .before .before .before .before .before .before .cell6 .ensures) (omega arith) (sym (c .before .before .before .before .before .before .before .before .arc-on-ring .ensures) ∙ not-false _ (c .before .before .before .before .before .before .before .if1 .left)) (sym (c .before .before .before .before .new-source .ensures) ∙ not-false _ (c .before .before .before .if2 .left)) (c .before .before .cell62 .result) (c .before .before .cell62 .ensures) (c .before .if3 .taken) m ea ef
 
-sources-differ-requires : tie.Need-sources-differ-requires
-sources-differ-requires c κs = search needs
+loop-less : tie.Need-loop-less Inv-loop μ-loop
+loop-less c = search needs
 
-returns-4 : tie.Need-returns-4
-unfolding ringWhole ringLength
+loop-again : tie.Need-loop-again Inv-loop μ-loop
+loop-again c =
+    let l = c .before .before .before .before .before .before .before .before .before in
+    let a = l .before .before .before .args in
+    going-on (a .arcs .now) (a .first) (a .f) (l .loop .sources) (l .loop .n) (l .loop .x) (l .loop .inv) (c .before .before .before .before .before .cell6 .result) (c .before .before .before .before .before .cell6 .ensures) (omega arith) (sym (c .before .before .before .before .before .before .before .arc-on-ring .ensures) ∙ not-false _ (c .before .before .before .before .before .before .if1 .left)) (sym (c .before .before .before .new-source .ensures) ∙ not-false _ (c .before .before .if2 .left)) (c .before .cell62 .result) (c .before .cell62 .ensures) (c .if3 .left)
+
+returns-4 : tie.Need-returns-4 Inv-loop μ-loop
 returns-4 c =
-    let a = c .before .before .before .before .before .before .before .before .before .before .args in
-    let f = a .f in
-    let w = c .before .before .before .before .before .before .before .ring in
-    λ m ea ef.
-    let rh : ring m f ≡ listOf (w .result .links) = ring-held m f (a .arcs .now) (a .first) (w .result) ea ef (w .ensures) in
-    let re : ringEnded m f ≡ w .result .ended = ring-ended m f (a .arcs .now) (a .first) (w .result) ea ef (w .ensures) in
-    let rl : length (ring m f) ≡ w .result .links .len = ring-len m f (a .arcs .now) (a .first) (w .result) ea ef (w .ensures) in
-    rw (sym (c .before .before .before .before .before .before .before .before .before .names-holder .ensures m ea ef) ∙ not-false _ (c .before .before .before .before .before .before .before .before .if1 .left), sym (c .before .before .before .before .before .comes-back .ensures m f re) ∙ not-false _ (c .before .before .before .before .if2 .left), sym (c .before .before .before .three-to-limit .ensures m f rl) ∙ not-false _ (c .before .before .if3 .left), sym (c .before .sources-differ .ensures m f ea rh) ∙ not-true _ (c .if4 .taken))
-
-ring-holds-requires : tie.Need-ring-holds-requires
-ring-holds-requires c κs = search needs
-
-returns-5 : tie.Need-returns-5
-unfolding ringWhole ringLength
-returns-5 c =
-    let a = c .before .before .before .before .before .before .before .before .before .before .before .before .args in
-    let f = a .f in
-    let w = c .before .before .before .before .before .before .before .before .before .ring in
-    λ m ea ef.
-    let rh : ring m f ≡ listOf (w .result .links) = ring-held m f (a .arcs .now) (a .first) (w .result) ea ef (w .ensures) in
-    let re : ringEnded m f ≡ w .result .ended = ring-ended m f (a .arcs .now) (a .first) (w .result) ea ef (w .ensures) in
-    let rl : length (ring m f) ≡ w .result .links .len = ring-len m f (a .arcs .now) (a .first) (w .result) ea ef (w .ensures) in
-    rw (sym (c .before .before .before .before .before .before .before .before .before .before .before .names-holder .ensures m ea ef) ∙ not-false _ (c .before .before .before .before .before .before .before .before .before .before .if1 .left), sym (c .before .before .before .before .before .before .before .comes-back .ensures m f re) ∙ not-false _ (c .before .before .before .before .before .before .if2 .left), sym (c .before .before .before .before .before .three-to-limit .ensures m f rl) ∙ not-false _ (c .before .before .before .before .if3 .left), sym (c .before .before .before .sources-differ .ensures m f ea rh) ∙ not-false _ (c .before .before .if4 .left), sym (c .before .ring-holds .ensures m ea rh) ∙ not-true _ (c .if5 .taken))
-
-runs-back-requires : tie.Need-runs-back-requires
-runs-back-requires c κs = search needs
-
-returns-6 : tie.Need-returns-6
-unfolding ringWhole ringLength
-returns-6 c =
-    let a = c .before .before .before .before .before .before .before .before .before .before .before .before .before .before .args in
-    let f = a .f in
-    let w = c .before .before .before .before .before .before .before .before .before .before .before .ring in
-    λ m ea ef.
-    let rh : ring m f ≡ listOf (w .result .links) = ring-held m f (a .arcs .now) (a .first) (w .result) ea ef (w .ensures) in
-    let re : ringEnded m f ≡ w .result .ended = ring-ended m f (a .arcs .now) (a .first) (w .result) ea ef (w .ensures) in
-    let rl : length (ring m f) ≡ w .result .links .len = ring-len m f (a .arcs .now) (a .first) (w .result) ea ef (w .ensures) in
-    rw (sym (c .before .before .before .before .before .before .before .before .before .before .before .before .before .names-holder .ensures m ea ef) ∙ not-false _ (c .before .before .before .before .before .before .before .before .before .before .before .before .if1 .left), sym (c .before .before .before .before .before .before .before .before .before .comes-back .ensures m f re) ∙ not-false _ (c .before .before .before .before .before .before .before .before .if2 .left), sym (c .before .before .before .before .before .before .before .three-to-limit .ensures m f rl) ∙ not-false _ (c .before .before .before .before .before .before .if3 .left), sym (c .before .before .before .before .before .sources-differ .ensures m f ea rh) ∙ not-false _ (c .before .before .before .before .if4 .left), sym (c .before .before .before .ring-holds .ensures m ea rh) ∙ not-false _ (c .before .before .if5 .left), sym (c .before .runs-back .ensures m f ea rh) ∙ not-true _ (c .if6 .taken))
-
-returns-7 : tie.Need-returns-7
-unfolding ringWhole ringLength
-returns-7 c =
-    let a = c .before .before .before .before .before .before .before .before .before .before .before .before .before .before .args in
-    let f = a .f in
-    let w = c .before .before .before .before .before .before .before .before .before .before .before .ring in
-    λ m ea ef.
-    let rh : ring m f ≡ listOf (w .result .links) = ring-held m f (a .arcs .now) (a .first) (w .result) ea ef (w .ensures) in
-    let re : ringEnded m f ≡ w .result .ended = ring-ended m f (a .arcs .now) (a .first) (w .result) ea ef (w .ensures) in
-    let rl : length (ring m f) ≡ w .result .links .len = ring-len m f (a .arcs .now) (a .first) (w .result) ea ef (w .ensures) in
-    rw (sym (c .before .before .before .before .before .before .before .before .before .before .before .before .before .names-holder .ensures m ea ef) ∙ not-false _ (c .before .before .before .before .before .before .before .before .before .before .before .before .if1 .left), sym (c .before .before .before .before .before .before .before .before .before .comes-back .ensures m f re) ∙ not-false _ (c .before .before .before .before .before .before .before .before .if2 .left), sym (c .before .before .before .before .before .before .before .three-to-limit .ensures m f rl) ∙ not-false _ (c .before .before .before .before .before .before .if3 .left), sym (c .before .before .before .before .before .sources-differ .ensures m f ea rh) ∙ not-false _ (c .before .before .before .before .if4 .left), sym (c .before .before .before .ring-holds .ensures m ea rh) ∙ not-false _ (c .before .before .if5 .left), sym (c .before .runs-back .ensures m f ea rh) ∙ not-false _ (c .if6 .left)) (sym rl)
+    let l = c .before in
+    let a = l .before .before .before .args in
+    end-out (a .arcs .now) (a .first) (a .f) (l .loop .sources) (l .loop .n) (l .loop .x) (l .loop .inv) (omega arith)
 
 pub ring-length-spec : {M : Type 1} → statement M
 ring-length-spec =
     tie.close
     (tie.spec
-    names-holder-requires
+    Inv-loop
+    μ-loop
+    known-places-requires
+    loop-holds
+    arc-on-ring-requires
     returns
-    ring-requires
-    comes-back-requires
+    cell6-requires
+    new-source-requires
     returns-2
-    three-to-limit-requires
+    mul-sources
+    element-write-sources
+    add-n
+    cell6-requires-2
+    three-or-none-requires
     returns-3
-    sources-differ-requires
-    returns-4
-    ring-holds-requires
-    returns-5
-    runs-back-requires
-    returns-6
-    returns-7)
+    loop-less
+    loop-again
+    returns-4)

@@ -10,16 +10,13 @@ use Rattle.sound.proofs.faces.rings_sound.Statement.{statement}
 use Rattle.sound.proofs.faces.rings_sound.Tie as tie
 
 abbrev Inv-loop : tie.InvT-loop
-Inv-loop arcs faces left₀ i₀ left i = (i ≤ length faces) × Going (bare arcs faces) left i
+Inv-loop arcs faces held sources₀ left₀ i₀ sources left i = (i ≤ length faces) × Going (bare arcs faces) left i
 
 abbrev μ-loop : tie.MeasureT-loop
-μ-loop arcs faces left₀ i₀ left i = length faces - i
-
-count-held-requires : tie.Need-count-held-requires Inv-loop μ-loop
-count-held-requires c κs = search needs
+μ-loop arcs faces held sources₀ left₀ i₀ sources left i = length faces - i
 
 loop-holds : tie.Need-loop-holds Inv-loop μ-loop
-loop-holds c = (search needs, going-start (bare (c .before .args .arcs .now) (c .before .args .faces .now)) (c .count-held .result) (c .count-held .ensures))
+loop-holds c = (search needs, going-start (bare (c .args .arcs .now) (c .args .faces .now)) (c .args .held) (c .pre))
 
 mul-if1 : tie.Need-mul-if1 Inv-loop μ-loop
 mul-if1 c = search needs
@@ -47,19 +44,19 @@ ring-length-requires c κs = search needs
 
 returns : tie.Need-returns Inv-loop μ-loop
 returns c =
-    let l = c .before .before .before .before .before .before in
-    let a = l .before .before .args in
+    let l = c .before .before .before .before .before .before .before in
+    let a = l .before .args in
     let m = bare (a .arcs .now) (a .faces .now) in
     let g = l .loop .inv .1 in
-    λ v p e k fe. length-fails m (l .loop .left) (l .loop .i) g (c .before .ring-length .result) (c .before .before .before .if1 .taken) (c .before .ring-length .ensures m refl (cell-row (a .faces .now) (l .loop .i) 1)) (c .if2 .taken) ∙ sym (bare-rings v p (a .arcs .now) e (a .faces .now) k)
+    λ v p e k fe. length-fails m (l .loop .left) (l .loop .i) g (c .before .ring-length .result) (c .before .before .before .before .if1 .taken) (c .before .ring-length .ensures m refl (cell-row (a .faces .now) (l .loop .i) 1)) (c .if2 .taken) ∙ sym (bare-rings v p (a .arcs .now) e (a .faces .now) k)
 
 returns-2 : tie.Need-returns-2 Inv-loop μ-loop
 returns-2 c =
-    let l = c .before .before .before .before .before .before .before in
-    let a = l .before .before .args in
+    let l = c .before .before .before .before .before .before .before .before in
+    let a = l .before .args in
     let m = bare (a .arcs .now) (a .faces .now) in
     let g = l .loop .inv .1 in
-    λ v p e k fe. sum-fails m (l .loop .left) (l .loop .i) g (c .before .before .ring-length .result) (c .before .before .before .before .if1 .taken) (c .before .before .ring-length .ensures m refl (cell-row (a .faces .now) (l .loop .i) 1)) (c .before .if2 .left) (true-T (sym (bare-exists v p (a .arcs .now) e (a .faces .now) k) ∙ fe)) (omega arith) (omega arith) ∙ sym (bare-rings v p (a .arcs .now) e (a .faces .now) k)
+    λ v p e k fe. sum-fails m (l .loop .left) (l .loop .i) g (c .before .before .ring-length .result) (c .before .before .before .before .before .if1 .taken) (c .before .before .ring-length .ensures m refl (cell-row (a .faces .now) (l .loop .i) 1)) (c .before .if2 .left) (true-T (sym (bare-exists v p (a .arcs .now) e (a .faces .now) k) ∙ fe)) (omega arith) (omega arith) ∙ sym (bare-rings v p (a .arcs .now) e (a .faces .now) k)
 
 add-i : tie.Need-add-i Inv-loop μ-loop
 add-i c = search needs
@@ -70,18 +67,18 @@ loop-less c = search needs
 loop-again : tie.Need-loop-again Inv-loop μ-loop
 loop-again c =
     let l = c .before .before .before in
-    let a = l .before .before .args in
+    let a = l .before .args in
     let m = bare (a .arcs .now) (a .faces .now) in
     let g = l .loop .inv .1 in
     ⊎-elim
-    (λ w. (search needs, going-used m (l .loop .left) (l .loop .i) g (w .2 .result) (w .0 .taken) (w .2 .ensures m refl (cell-row (a .faces .now) (l .loop .i) 1)) (w .3 .left) (c .if1 .left) (omega arith) (omega arith)))
-    (λ w. (search needs, going-unused m (l .loop .left) (l .loop .i) g (c .if1 .left) (w .1) (w .0 .left)))
+    (λ w. (search needs, going-used m (l .loop .left) (l .loop .i) g (w .3 .result) (w .0 .taken) (w .3 .ensures m refl (cell-row (a .faces .now) (l .loop .i) 1)) (w .4 .left) (c .if1 .left) (omega arith) (omega arith)))
+    (λ w. (search needs, going-unused m (l .loop .left) (l .loop .i) g (c .if1 .left) (omega arith) (w .0 .left)))
     (c .if1 .came)
 
 returns-3 : tie.Need-returns-3 Inv-loop μ-loop
 returns-3 c =
     let l = c .before in
-    let a = l .before .before .args in
+    let a = l .before .args in
     let m = bare (a .arcs .now) (a .faces .now) in
     let g = l .loop .inv .1 in
     λ v p e k fe. going-end m (l .loop .left) (l .loop .i) g (true-T (sym (bare-exists v p (a .arcs .now) e (a .faces .now) k) ∙ fe)) (omega arith) (omega arith) ∙ sym (bare-rings v p (a .arcs .now) e (a .faces .now) k)
@@ -92,7 +89,6 @@ rings-sound-spec =
     (tie.spec
     Inv-loop
     μ-loop
-    count-held-requires
     loop-holds
     mul-if1
     index-1-if1

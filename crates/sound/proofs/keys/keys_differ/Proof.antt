@@ -1,6 +1,10 @@
+use native.Mathlib.Omega.{arith}
 use mathlib.Core.Path.{sym, _∙_}
 use borrow.Author.Tests.{not-true, not-false}
+use Rattle.rules.specs.Mesh.{mesh}
 use Rattle.rules.specs.Sound.{keysDiffer}
+use Rattle.proved.proofs.Rows.{true-T}
+use Rattle.proved.proofs.SoundParts.{sizes}
 use borrow.Author.Needs.{needs}
 use Rattle.sound.proofs.keys.keys_differ.Statement.{statement}
 use Rattle.sound.proofs.keys.keys_differ.Tie as tie
@@ -10,21 +14,30 @@ differ2-requires c κs = search needs
 
 returns : tie.Need-returns
 unfolding keysDiffer
-returns c = λ p a k. rw (sym (c .before .differ2 .ensures) ∙ not-true _ (c .if1 .taken))
+returns c =
+    let x = c .before .before .before .args in
+    λ p a k h. let s = sizes (mesh (x .vertices .now) p a (x .edges .now) (x .faces .now) k) (true-T h) in
+    rw (sym (c .before .differ2 .ensures (omega arith)) ∙ not-true _ (c .if1 .taken))
 
 differ3-requires : tie.Need-differ3-requires
 differ3-requires c κs = search needs
 
 returns-2 : tie.Need-returns-2
 unfolding keysDiffer
-returns-2 c = λ p a k. rw (sym (c .before .before .before .differ2 .ensures) ∙ not-false _ (c .before .before .if1 .left), sym (c .before .differ3 .ensures) ∙ not-true _ (c .if2 .taken))
+returns-2 c =
+    let x = c .before .before .before .before .before .before .args in
+    λ p a k h. let s = sizes (mesh (x .vertices .now) p a (x .edges .now) (x .faces .now) k) (true-T h) in
+    rw (sym (c .before .before .before .before .differ2 .ensures (omega arith)) ∙ not-false _ (c .before .before .before .if1 .left), sym (c .before .differ3 .ensures (omega arith)) ∙ not-true _ (c .if2 .taken))
 
 differ3-requires-2 : tie.Need-differ3-requires-2
 differ3-requires-2 c κs = search needs
 
 returns-3 : tie.Need-returns-3
 unfolding keysDiffer
-returns-3 c = λ p a k. rw (sym (c .before .before .before .before .differ2 .ensures) ∙ not-false _ (c .before .before .before .if1 .left), sym (c .before .before .differ3 .ensures) ∙ not-false _ (c .before .if2 .left)) (c .differ32 .ensures)
+returns-3 c =
+    let x = c .before .before .before .before .before .before .before .before .args in
+    λ p a k h. let s = sizes (mesh (x .vertices .now) p a (x .edges .now) (x .faces .now) k) (true-T h) in
+    rw (sym (c .before .before .before .before .before .before .differ2 .ensures (omega arith)) ∙ not-false _ (c .before .before .before .before .before .if1 .left), sym (c .before .before .before .differ3 .ensures (omega arith)) ∙ not-false _ (c .before .before .if2 .left)) (c .differ32 .ensures (omega arith))
 
 pub keys-differ-spec : {M : Type 1} → statement M
 keys-differ-spec =

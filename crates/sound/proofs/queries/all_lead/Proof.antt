@@ -4,10 +4,10 @@ use mathlib.Core.Path.{sym, _∙_}
 use mathlib.Core.List.{[]}
 use lib.ListN.{length, getD}
 use borrow.Author.Tests.{not-true, not-false}
-use Rattle.sound.proofs.Loops.{Passed, none-yet, one-more, all-passed, one-failed}
+use Rattle.names.proofs.Loops.{Passed, none-yet, one-more, all-passed, one-failed}
 use mathlib.Core.Bool.{not}
 use Rattle.rules.specs.Call.{leadless}
-use Rattle.sound.proofs.Loops.{every-all}
+use Rattle.names.proofs.Loops.{every-all}
 use borrow.Author.Needs.{needs}
 use Rattle.sound.proofs.queries.all_lead.Statement.{statement}
 use Rattle.sound.proofs.queries.all_lead.Tie as tie

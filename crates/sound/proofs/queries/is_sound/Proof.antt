@@ -3,74 +3,69 @@ use mathlib.Core.Bool.{true}
 use borrow.Author.Tests.{not-true, not-false}
 use Rattle.rules.specs.Mesh.{mesh}
 use Rattle.rules.specs.Sound.{ringsSound, keysDiffer}
-use Rattle.sound.specs.Parts.{rowsSound, linksSound}
-use Rattle.sound.proofs.Groups.{lacks, rows-of, links-of, rings-of, keys-of, faces-exist, decides}
+use Rattle.sound.specs.Parts.{rowsSound}
+use Rattle.sound.proofs.Groups.{lacks, held-none, held-some, rows-of, rings-of, keys-of, limits-kept, faces-exist, decides}
 use borrow.Author.Needs.{needs}
 use Rattle.sound.proofs.queries.is_sound.Statement.{statement}
 use Rattle.sound.proofs.queries.is_sound.Tie as tie
 
-rows-sound-requires : tie.Need-rows-sound-requires
-rows-sound-requires c κs = search needs
+rows-held-requires : tie.Need-rows-held-requires
+rows-held-requires c κs = search needs
 
 returns : tie.Need-returns
 returns c =
     let x = c .before .before .args in
     let m = mesh (x .vertices .now) (x .positions .now) (x .arcs .now) (x .edges .now) (x .faces .now) (x .counters .now) in
-    lacks m (rowsSound m) (rows-of m) (sym (c .before .rows-sound .ensures) ∙ not-true _ (c .if1 .taken))
+    lacks m (rowsSound m) (rows-of m) (held-none (rowsSound m) (x .arcs .now) (c .before .rows-held .result) (c .before .rows-held .ensures) (c .if1 .taken))
 
-links-sound-requires : tie.Need-links-sound-requires
-links-sound-requires c κs = search needs
+sub-rings-sound : tie.Need-sub-rings-sound
+sub-rings-sound c = search needs
+
+rings-sound-requires : tie.Need-rings-sound-requires
+rings-sound-requires c κs =
+    let x = c .before .before .args in
+    let m = mesh (x .vertices .now) (x .positions .now) (x .arcs .now) (x .edges .now) (x .faces .now) (x .counters .now) in
+    held-some (rowsSound m) (x .arcs .now) (c .before .rows-held .result) (c .before .rows-held .ensures) (c .if1 .left) .1
 
 returns-2 : tie.Need-returns-2
 returns-2 c =
     let x = c .before .before .before .before .args in
     let m = mesh (x .vertices .now) (x .positions .now) (x .arcs .now) (x .edges .now) (x .faces .now) (x .counters .now) in
-    lacks m (linksSound m) (links-of m) (sym (c .before .links-sound .ensures (x .positions .now) (x .counters .now)) ∙ not-true _ (c .if2 .taken))
-
-rings-sound-requires : tie.Need-rings-sound-requires
-rings-sound-requires c κs = search needs
-
-returns-3 : tie.Need-returns-3
-returns-3 c =
-    let x = c .before .before .before .before .before .before .args in
-    let m = mesh (x .vertices .now) (x .positions .now) (x .arcs .now) (x .edges .now) (x .faces .now) (x .counters .now) in
-    let hr : rowsSound m ≡ true = sym (c .before .before .before .before .before .rows-sound .ensures) ∙ not-false _ (c .before .before .before .before .if1 .left) in
-    let hl : linksSound m ≡ true = sym (c .before .before .before .links-sound .ensures (x .positions .now) (x .counters .now)) ∙ not-false _ (c .before .before .if2 .left) in
-    lacks m (ringsSound m) (rings-of m) (sym (c .before .rings-sound .ensures (x .vertices .now) (x .positions .now) (x .edges .now) (x .counters .now) (faces-exist m hl)) ∙ not-true _ (c .if3 .taken))
+    let hr : rowsSound m ≡ true = held-some (rowsSound m) (x .arcs .now) (c .before .before .before .rows-held .result) (c .before .before .before .rows-held .ensures) (c .before .before .if1 .left) .0 in
+    lacks m (ringsSound m) (rings-of m) (sym (c .before .rings-sound .ensures (x .vertices .now) (x .positions .now) (x .edges .now) (x .counters .now) (faces-exist m hr)) ∙ not-true _ (c .if2 .taken))
 
 keys-differ-requires : tie.Need-keys-differ-requires
 keys-differ-requires c κs = search needs
 
-returns-4 : tie.Need-returns-4
-returns-4 c =
-    let x = c .before .before .before .before .before .before .before .before .args in
+returns-3 : tie.Need-returns-3
+returns-3 c =
+    let x = c .before .before .before .before .before .before .before .args in
     let m = mesh (x .vertices .now) (x .positions .now) (x .arcs .now) (x .edges .now) (x .faces .now) (x .counters .now) in
-    lacks m (keysDiffer m) (keys-of m) (sym (c .before .keys-differ .ensures (x .positions .now) (x .arcs .now) (x .counters .now)) ∙ not-true _ (c .if4 .taken))
+    let hr : rowsSound m ≡ true = held-some (rowsSound m) (x .arcs .now) (c .before .before .before .before .before .before .rows-held .result) (c .before .before .before .before .before .before .rows-held .ensures) (c .before .before .before .before .before .if1 .left) .0 in
+    lacks m (keysDiffer m) (keys-of m) (sym (c .before .keys-differ .ensures (x .positions .now) (x .arcs .now) (x .counters .now) (limits-kept m hr)) ∙ not-true _ (c .if3 .taken))
 
 pairs-differ-requires : tie.Need-pairs-differ-requires
 pairs-differ-requires c κs = search needs
 
-returns-5 : tie.Need-returns-5
-returns-5 c =
+returns-4 : tie.Need-returns-4
+returns-4 c =
     let x = c .before .before .before .before .before .before .before .before .before .args in
     let m = mesh (x .vertices .now) (x .positions .now) (x .arcs .now) (x .edges .now) (x .faces .now) (x .counters .now) in
-    let hr : rowsSound m ≡ true = sym (c .before .before .before .before .before .before .before .before .rows-sound .ensures) ∙ not-false _ (c .before .before .before .before .before .before .before .if1 .left) in
-    let hl : linksSound m ≡ true = sym (c .before .before .before .before .before .before .links-sound .ensures (x .positions .now) (x .counters .now)) ∙ not-false _ (c .before .before .before .before .before .if2 .left) in
-    let hg : ringsSound m ≡ true = sym (c .before .before .before .before .rings-sound .ensures (x .vertices .now) (x .positions .now) (x .edges .now) (x .counters .now) (faces-exist m hl)) ∙ not-false _ (c .before .before .before .if3 .left) in
-    let hk : keysDiffer m ≡ true = sym (c .before .before .keys-differ .ensures (x .positions .now) (x .arcs .now) (x .counters .now)) ∙ not-false _ (c .before .if4 .left) in
-    c .pairs-differ .ensures (x .vertices .now) (x .positions .now) (x .edges .now) (x .faces .now) (x .counters .now) ∙ decides m hl hr hg hk
+    let hr : rowsSound m ≡ true = held-some (rowsSound m) (x .arcs .now) (c .before .before .before .before .before .before .before .before .rows-held .result) (c .before .before .before .before .before .before .before .before .rows-held .ensures) (c .before .before .before .before .before .before .before .if1 .left) .0 in
+    let hg : ringsSound m ≡ true = sym (c .before .before .before .before .before .before .rings-sound .ensures (x .vertices .now) (x .positions .now) (x .edges .now) (x .counters .now) (faces-exist m hr)) ∙ not-false _ (c .before .before .before .before .before .if2 .left) in
+    let hk : keysDiffer m ≡ true = sym (c .before .before .before .keys-differ .ensures (x .positions .now) (x .arcs .now) (x .counters .now) (limits-kept m hr)) ∙ not-false _ (c .before .before .if3 .left) in
+    c .pairs-differ .ensures (x .vertices .now) (x .positions .now) (x .faces .now) (x .counters .now) hr ∙ decides m hr hg hk
 
 pub is-sound-spec : {M : Type 1} → statement M
 is-sound-spec =
     tie.close
     (tie.spec
-    rows-sound-requires
+    rows-held-requires
     returns
-    links-sound-requires
-    returns-2
+    sub-rings-sound
     rings-sound-requires
-    returns-3
+    returns-2
     keys-differ-requires
-    returns-4
+    returns-3
     pairs-differ-requires
-    returns-5)
+    returns-4)

@@ -1,0 +1,4 @@
+pub mod Loops
+pub mod Probing
+pub mod Names
+pub mod Pairs

@@ -1,0 +1,39 @@
+-- Lookup of a name's row in slots, each of which has a row plus one, or 0: from the slot that the name gives to the first that has 0, at
+-- most 128 of them.
+-- All that a proof asks of it is that one name finds one row.
+use Prim.Native.Nat.{ℕ, zero, suc, _+_, _-_, _*_, _/_, _%_}
+use mathlib.Core.Bool.{Bool, not, cond, _||_}
+use mathlib.Core.List.{List}
+use lib.ListN.{getD}
+use lib.Dec.{eqb, ltb}
+
+unfoldable pub slotOf : ℕ → ℕ
+slotOf name = name * 73244475 / 4194304 % 16384
+
+unfoldable pub slotAfter : ℕ → ℕ
+slotAfter slot = (slot + 1) % 16384
+
+-- the name in a row, by its link
+unfoldable pub nameOf : List ℕ → ℕ → ℕ
+nameOf names row = cond (eqb row 0) 0 (cond (ltb 8192 row) 0 (getD names (row - 1) 0))
+
+-- at most so many slots, from this one on
+unfoldable pub probe : List ℕ → List ℕ → ℕ → ℕ → ℕ → ℕ
+probe slots names name zero slot = 0
+probe slots names name (suc left) slot =
+    let row = getD slots slot 0 in
+    let later = probe slots names name left (slotAfter slot) in
+    cond (eqb row 0) 0 (cond (eqb (nameOf names row) name) row later)
+
+unfoldable pub lookIn : List ℕ → List ℕ → ℕ → ℕ
+lookIn slots names name = probe slots names name 128 (slotOf name)
+
+-- row i has no name, or its name finds it
+unfoldable pub finds : List ℕ → List ℕ → ℕ → Bool
+finds slots names i = eqb (getD names i 0) 0 || eqb (lookIn slots names (getD names i 0)) (i + 1)
+
+-- row i has no name, or its name finds itself, or no row of the first n, or one with another name
+unfoldable pub single : List ℕ → List ℕ → ℕ → ℕ → Bool
+single slots names n i =
+    let row = lookIn slots names (getD names i 0) in
+    eqb (getD names i 0) 0 || (eqb row (i + 1) || (ltb n row || not (eqb (nameOf names row) (getD names i 0))))

@@ -1,0 +1,288 @@
+// Whether the names in a list differ, where 0 is no name: the keys of a table plus one, or the pairs that its edges join.
+// It carries document 01's "keys in a table differ" and "no two edges join the same pair".
+// Names that rise from row to row differ. Else each name's row is put into a slot that the name gives, or into the next free one, and looked
+// up again: a row that its own name finds is the only one with that name, however the slots were filled, and a name that finds another row
+// stands twice. Where neither tells, names are compared one by one.
+
+ghost use mathlib.Core.Path.{_≡_};
+ghost use mathlib.Core.Bool.{not, _||_};
+ghost use Prim.Native.Nat.{_≤_, _<_, min};
+ghost use lib.ListN.{getD};
+ghost use lib.Dec.{eqb, ltb};
+ghost use Rattle.rules.specs.Table.{allBelow, orElse};
+ghost use Rattle.names.specs.Names.{alone, differ, pairName};
+ghost use Rattle.names.specs.Rising.{rises};
+ghost use Rattle.names.specs.Slots.{slotOf, slotAfter, nameOf, lookIn, finds, single};
+
+// The most rows that a list of names has: as many as the largest table with keys.
+pub const ROWS: usize = 8192;
+
+const SLOTS: usize = 16384;
+
+// As many slots as are tried for a name.
+const TRIES: usize = 128;
+
+// ---- pairs
+
+// A pair of vertices as one number, the same for both orders.
+pub fn pair_name(a: u32, b: u32) -> u32
+    ensures { λ r. ⌜ r ≡ pairName a b ⌝ }
+{
+    if a < b {
+        return a % 8192 * 8192 + b % 8192;
+    }
+    b % 8192 * 8192 + a % 8192
+}
+
+// ---- rising
+
+// Whether a name may follow the last that was not 0.
+fn follows(last: u32, name: u32) -> bool
+    ensures { λ r. ⌜ r ≡ (eqb name 0 || ltb last name) ⌝ }
+{
+    if name == 0 {
+        return true;
+    }
+    last < name
+}
+
+// The name, or the one before where it is 0.
+fn or_last(name: u32, last: u32) -> u32
+    ensures { λ r. ⌜ r ≡ orElse name last ⌝ }
+{
+    if name == 0 {
+        return last;
+    }
+    name
+}
+
+// Whether the names rise.
+fn rising(names: &[u32; ROWS], n: usize) -> bool
+    requires { ⌜ n ≤ 8192 ⌝ }
+    ensures { λ r. ⌜ r ≡ allBelow (rises (now (names .entry))) n ⌝ }
+{
+    let mut last = 0;
+    let mut i = 0;
+    while i < n {
+        if !follows(last, names[i]) {
+            return false;
+        }
+        last = or_last(names[i], last);
+        i += 1;
+    }
+    true
+}
+
+// ---- slots
+
+// The slot that a name gives. The factor spreads rows of keys, and the pairs of meshes that were built row by row.
+fn slot_of(name: u32) -> usize
+    ensures { λ r. ⌜ r ≡ slotOf name ⌝ }
+{
+    (name as u64 * 73244475 / 4194304 % 16384) as usize
+}
+
+fn slot_after(slot: usize) -> usize
+    requires { ⌜ slot < 16384 ⌝ }
+    ensures { λ r. ⌜ r ≡ slotAfter slot ⌝ }
+{
+    (slot + 1) % SLOTS
+}
+
+// The name in a row, by its link.
+fn name_of(names: &[u32; ROWS], row: u16) -> u32
+    ensures { λ r. ⌜ r ≡ nameOf (now (names .entry)) row ⌝ }
+{
+    if row == 0 {
+        return 0;
+    }
+    if row > 8192 {
+        return 0;
+    }
+    names[row as usize - 1]
+}
+
+// The first free slot from a name's own on, or any where none of those tried is free.
+fn free_slot(slots: &[u16; SLOTS], name: u32) -> usize
+    ensures { λ r. ⌜ r < 16384 ⌝ }
+{
+    let mut slot = slot_of(name);
+    let mut left = TRIES;
+    while left > 0 {
+        if slots[slot] == 0 {
+            return slot;
+        }
+        slot = slot_after(slot);
+        left -= 1;
+    }
+    slot
+}
+
+// Each name's row, plus one, in a slot. What stands in them is a guess: no statement rests on it.
+fn fill(slots: &mut [u16; SLOTS], names: &[u32; ROWS], n: usize)
+    requires { ⌜ n ≤ 8192 ⌝ }
+{
+    let mut i = 0;
+    while i < n {
+        if names[i] != 0 {
+            let slot = free_slot(slots, names[i]);
+            slots[slot] = (i + 1) as u16;
+        }
+        i += 1;
+    }
+}
+
+// The row, plus one, that a name finds from its own slot on, or 0.
+fn look(slots: &[u16; SLOTS], names: &[u32; ROWS], name: u32) -> u16
+    ensures { λ r. ⌜ r ≡ lookIn (now (slots .entry)) (now (names .entry)) name ⌝ }
+{
+    let mut slot = slot_of(name);
+    let mut left = TRIES;
+    while left > 0 {
+        let row = slots[slot];
+        if row == 0 {
+            return 0;
+        }
+        if name_of(names, row) == name {
+            return row;
+        }
+        slot = slot_after(slot);
+        left -= 1;
+    }
+    0
+}
+
+// Whether a row has no name, or its name finds it.
+fn found(slots: &[u16; SLOTS], names: &[u32; ROWS], i: usize) -> bool
+    requires { ⌜ i < 8192 ⌝ }
+    ensures { λ r. ⌜ r ≡ finds (now (slots .entry)) (now (names .entry)) i ⌝ }
+{
+    if names[i] == 0 {
+        return true;
+    }
+    look(slots, names, names[i]) == (i + 1) as u16
+}
+
+// Whether each name finds its own row.
+fn confirmed(slots: &[u16; SLOTS], names: &[u32; ROWS], n: usize) -> bool
+    requires { ⌜ n ≤ 8192 ⌝ }
+    ensures { λ r. ⌜ r ≡ allBelow (finds (now (slots .entry)) (now (names .entry))) n ⌝ }
+{
+    let mut row = 0;
+    while row < n {
+        if !found(slots, names, row) {
+            return false;
+        }
+        row += 1;
+    }
+    true
+}
+
+// Whether a row's name finds no other row of the first n that has the same.
+fn single_at(slots: &[u16; SLOTS], names: &[u32; ROWS], n: usize, i: usize) -> bool
+    requires { ⌜ i < 8192 ⌝ }
+    ensures { λ r. ⌜ r ≡ single (now (slots .entry)) (now (names .entry)) n i ⌝ }
+{
+    if names[i] == 0 {
+        return true;
+    }
+    let row = look(slots, names, names[i]);
+    if row == (i + 1) as u16 {
+        return true;
+    }
+    if row as usize > n {
+        return true;
+    }
+    name_of(names, row) != names[i]
+}
+
+// A name that finds another row with that name tells at once that names do not differ.
+fn no_twin(slots: &[u16; SLOTS], names: &[u32; ROWS], n: usize) -> bool
+    requires { ⌜ n ≤ 8192 ⌝ }
+    ensures { λ r. ⌜ r ≡ allBelow (single (now (slots .entry)) (now (names .entry)) n) n ⌝ }
+{
+    let mut i = 0;
+    while i < n {
+        if !single_at(slots, names, n, i) {
+            return false;
+        }
+        i += 1;
+    }
+    true
+}
+
+// ---- one by one
+
+// Whether no row before has the name of this one.
+fn first_with(names: &[u32; ROWS], i: usize) -> bool
+    requires { ⌜ i < 8192 ⌝ }
+    ensures { λ r. ⌜ r ≡ allBelow (λ j. not (eqb (getD (now (names .entry)) j 0) (getD (now (names .entry)) i 0))) i ⌝ }
+{
+    let mut j = 0;
+    while j < i {
+        if names[j] == names[i] {
+            return false;
+        }
+        j += 1;
+    }
+    true
+}
+
+// Whether a row has no name, or no row before has the same.
+fn alone_at(names: &[u32; ROWS], i: usize) -> bool
+    requires { ⌜ i < 8192 ⌝ }
+    ensures { λ r. ⌜ r ≡ alone (now (names .entry)) i ⌝ }
+{
+    if names[i] == 0 {
+        return true;
+    }
+    first_with(names, i)
+}
+
+// Whether names differ, each compared with those before it.
+fn compared(names: &[u32; ROWS], n: usize) -> bool
+    requires { ⌜ n ≤ 8192 ⌝ }
+    ensures { λ r. ⌜ r ≡ differ (now (names .entry)) n ⌝ }
+{
+    let mut i = 0;
+    while i < n {
+        if !alone_at(names, i) {
+            return false;
+        }
+        i += 1;
+    }
+    true
+}
+
+// ---- differ
+
+// Whether no two of the first n rows have one name. More rows than there are have no answer.
+pub fn names_differ(names: &[u32; ROWS], n: usize) -> bool
+    ensures { λ r. ⌜ (n ≤ 8192 → r ≡ differ (now (names .entry)) n) ⌝ }
+{
+    if n > ROWS {
+        return false;
+    }
+    if rising(names, n) {
+        return true;
+    }
+    let mut slots = [0u16; SLOTS];
+    fill(&mut slots, names, n);
+    if confirmed(&slots, names, n) {
+        return true;
+    }
+    if !no_twin(&slots, names, n) {
+        return false;
+    }
+    compared(names, n)
+}
+
+// As many rows as both have: the lesser of two lengths.
+pub fn lesser(a: usize, b: usize) -> usize
+    ensures { λ r. ⌜ r ≡ min a b ⌝ }
+{
+    if a < b {
+        return a;
+    }
+    b
+}

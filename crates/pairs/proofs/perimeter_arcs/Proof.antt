@@ -1,0 +1,128 @@
+-- `pairs::perimeter_arcs` meets its contract. The loop keeps what the rows passed by have told of each pair; laws of Pass. Assumes nothing.
+use Prim.Native.Nat.{_-_, _≤_}
+use mathlib.Core.Path.{_∙_}
+use mathlib.Core.Logic.{⊎-elim}
+use lib.ListN.{length}
+use Rattle.rules.specs.Mesh.{listOf}
+use Rattle.pairs.proofs.Pass.{Passed, pass-start, pass-skip, pass-note, pass-end, pass-large}
+use borrow.Author.Needs.{needs}
+use Rattle.pairs.proofs.perimeter_arcs.Statement.{statement}
+use Rattle.pairs.proofs.perimeter_arcs.Tie as tie
+
+abbrev Inv-loop : tie.InvT-loop
+Inv-loop arcs per n at₀ seen i₀ at i = (i ≤ length arcs) × Passed arcs (listOf per) i at
+
+abbrev μ-loop : tie.MeasureT-loop
+μ-loop arcs per n at₀ seen i₀ at i = length arcs - i
+
+size-requires : tie.Need-size-requires Inv-loop μ-loop
+size-requires c κs = search needs
+
+known-few-requires : tie.Need-known-few-requires Inv-loop μ-loop
+known-few-requires c κs = search needs
+
+returns : tie.Need-returns Inv-loop μ-loop
+returns c =
+    let a = c .before .before .before .args in
+    pass-large (a .arcs .now) (listOf (a .per)) (c .before .before .size .result) (c .before .before .size .ensures) (c .before .known-few .ensures) (c .if1 .taken)
+
+marks-requires : tie.Need-marks-requires Inv-loop μ-loop
+marks-requires c κs = search needs
+
+loop-holds : tie.Need-loop-holds Inv-loop μ-loop
+loop-holds c = (search needs, pass-start _ _)
+
+mul-wide : tie.Need-mul-wide Inv-loop μ-loop
+mul-wide c = search needs
+
+index-1-wide : tie.Need-index-1-wide Inv-loop μ-loop
+index-1-wide c = search needs
+
+index-2-wide : tie.Need-index-2-wide Inv-loop μ-loop
+index-2-wide c = search needs
+
+wide-requires : tie.Need-wide-requires Inv-loop μ-loop
+wide-requires c κs = search needs
+
+array-read-if2 : tie.Need-array-read-if2 Inv-loop μ-loop
+array-read-if2 c = search needs
+
+mul-note : tie.Need-mul-note Inv-loop μ-loop
+mul-note c = search needs
+
+index-1-note : tie.Need-index-1-note Inv-loop μ-loop
+index-1-note c = search needs
+
+index-2-note : tie.Need-index-2-note Inv-loop μ-loop
+index-2-note c = search needs
+
+mul-note-2 : tie.Need-mul-note-2 Inv-loop μ-loop
+mul-note-2 c = search needs
+
+index-1-note-2 : tie.Need-index-1-note-2 Inv-loop μ-loop
+index-1-note-2 c = search needs
+
+index-2-note-2 : tie.Need-index-2-note-2 Inv-loop μ-loop
+index-2-note-2 c = search needs
+
+cast-note : tie.Need-cast-note Inv-loop μ-loop
+cast-note c = search needs
+
+add-note : tie.Need-add-note Inv-loop μ-loop
+add-note c = search needs
+
+note-requires : tie.Need-note-requires Inv-loop μ-loop
+note-requires c κs = search needs
+
+add-i : tie.Need-add-i Inv-loop μ-loop
+add-i c = search needs
+
+loop-less : tie.Need-loop-less Inv-loop μ-loop
+loop-less c = search needs
+
+loop-again : tie.Need-loop-again Inv-loop μ-loop
+loop-again c =
+    let l = c .before .before .before .before in
+    let a = l .before .before .before .before .before .args in
+    let arcs = a .arcs .now in
+    let per = listOf (a .per) in (
+      search needs,
+      ⊎-elim (λ w. pass-note arcs per (l .loop .i) (l .loop .at) (c .if2 .at) (l .before .before .before .known-few .ensures) (l .before .before .if1 .left) (search needs) (w .5 ∙ w .4 .ensures) (l .loop .inv .1))
+          (λ w. rw (w .1) (pass-skip arcs per (l .loop .i) (l .loop .at) (l .before .marks .result) (c .before .wide .result) (l .before .marks .ensures) (c .before .wide .ensures) (w .0 .left) (l .loop .inv .1))) (c .if2 .came),
+    )
+
+returns-2 : tie.Need-returns-2 Inv-loop μ-loop
+returns-2 c =
+    let l = c .before in
+    let a = l .before .before .before .before .before .args in
+    pass-end (a .arcs .now) (listOf (a .per)) (l .loop .i) (l .loop .at) (l .before .before .before .before .size .result) (l .before .before .before .before .size .ensures) (l .before .before .before .known-few .ensures) (c .loop-test .left) (l .loop .inv .1)
+
+pub perimeter-arcs-spec : {M : Type 1} → statement M
+perimeter-arcs-spec =
+    tie.close
+    (tie.spec
+    Inv-loop
+    μ-loop
+    size-requires
+    known-few-requires
+    returns
+    marks-requires
+    loop-holds
+    mul-wide
+    index-1-wide
+    index-2-wide
+    wide-requires
+    array-read-if2
+    mul-note
+    index-1-note
+    index-2-note
+    mul-note-2
+    index-1-note-2
+    index-2-note-2
+    cast-note
+    add-note
+    note-requires
+    add-i
+    loop-less
+    loop-again
+    returns-2)

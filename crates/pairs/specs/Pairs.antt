@@ -1,0 +1,39 @@
+-- The arcs of a perimeter's pairs, and the steps by which one pass over the arc table finds them.
+use Prim.Native.Nat.{ℕ, _+_, _%_}
+use mathlib.Core.Bool.{Bool, true, false, _&&_, cond}
+use mathlib.Core.List.{List, [], _∷_, _++_}
+use lib.ListN.{length, getD, set, replicate}
+use lib.Dec.{eqb}
+use Rattle.rules.specs.Table.{Table, upTo, after, orElse}
+use Rattle.rules.specs.Mesh.{arcBetween}
+
+-- the list of f at 0, 1, up to n - 1
+unfoldable pub listBelow : (ℕ → ℕ) → ℕ → List ℕ
+listBelow f n = upTo (λ i l. l ++ (f i ∷ [])) n []
+
+-- the arc of pair i, by the arc table alone, and those of all pairs
+unfoldable pub pairArc : Table → List ℕ → ℕ → ℕ
+pairArc arcs per i = arcBetween arcs (getD per i 0) (getD per (after (length per) i) 0)
+
+unfoldable pub arcsOf : Table → List ℕ → List ℕ
+arcsOf arcs per = listBelow (pairArc arcs per) (length per)
+
+-- ---- one pass
+
+-- marks at the remainders that the numbers of a list leave
+abbrev pub markCount : ℕ
+markCount = 1024
+
+unfoldable pub marksOf : List ℕ → List Bool
+marksOf l = upTo (λ i seen. set seen (getD l i 0 % markCount) true) (length l) (replicate markCount false)
+
+-- pair i runs from s to d
+unfoldable pub isPair : List ℕ → ℕ → ℕ → ℕ → Bool
+isPair per i s d = eqb s (getD per i 0) && eqb d (getD per (after (length per) i) 0)
+
+-- the arc x from s to d noted at pair i, and at all pairs, where it is theirs and none was noted before
+unfoldable pub noteAt : List ℕ → ℕ → ℕ → ℕ → ℕ → List ℕ → List ℕ
+noteAt per s d x i at = cond (isPair per i s d) (set at i (orElse (getD at i 0) x)) at
+
+unfoldable pub noted : List ℕ → ℕ → ℕ → ℕ → List ℕ → List ℕ
+noted per s d x at = cond (eqb s 0) at (upTo (noteAt per s d x) (length per) at)

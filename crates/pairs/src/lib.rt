@@ -1,0 +1,96 @@
+// The arcs of a perimeter's pairs, found in one pass over the arc table. Pair i of a perimeter runs from its vertex i to the one after.
+// It carries the lookups of document 01's rule 5: "perimeter pairs in order: an existing arc ..". Each of them alone is `rows::find_arc`.
+
+use rules::ArcRow;
+use rules::Links;
+use rules::RING;
+use tables::rows;
+ghost use mathlib.Core.Path.{_≡_};
+ghost use Prim.Native.Nat.{_<_};
+ghost use lib.ListN.{length, getD};
+ghost use lib.Dec.{eqb};
+ghost use Rattle.rules.specs.Table.{after, orElse};
+ghost use Rattle.rules.specs.Mesh.{linksOf, listOf};
+ghost use Rattle.pairs.specs.Pairs.{arcsOf, marksOf, noted};
+
+// The largest table that has links to give.
+const ROW_LIMIT: usize = 16384;
+
+// How many remainders are told apart.
+const MARKS: usize = 1024;
+
+// Which remainders the numbers of a list leave: a number with no mark at its own is not in the list.
+fn marks(list: Links) -> [bool; MARKS]
+    ensures { λ r. ⌜ r ≡ marksOf (listOf list) ⌝ }
+{
+    let n = lists::size(list);
+    let mut seen = [false; MARKS];
+    let mut i: usize = 0;
+    while i < n {
+        let place = rows::wide(lists::item(list, i)) % MARKS;
+        seen[place] = true;
+        i += 1;
+    }
+    seen
+}
+
+// x, or the other where x is none.
+pub fn or_else(x: u32, other: u32) -> u32
+    ensures { λ r. ⌜ r ≡ orElse x other ⌝ }
+{
+    if x == 0 {
+        return other;
+    }
+    x
+}
+
+// Whether pair i leads to d.
+fn leads_to(per: Links, i: usize, d: u32) -> bool
+    requires { ⌜ i < length (listOf per) ⌝ }
+    ensures { λ r. ⌜ r ≡ eqb d (getD (listOf per) (after (length (listOf per)) i) 0) ⌝ }
+{
+    let n = lists::size(per);
+    d == lists::item(per, lists::place_after(n, i))
+}
+
+// The arc x from s to d noted at its pairs, where none was noted before. None leads from none.
+fn note(at: &mut [u32; RING], per: Links, s: u32, d: u32, x: u32)
+    ensures { λ _. ⌜ now (at .exit) ≡ noted (listOf per) s d x (now (at .entry)) ⌝ }
+{
+    if s == 0 {
+        return;
+    }
+    let n = lists::size(per);
+    lists::known_few(per);
+    let from = per.at;
+    let mut i: usize = 0;
+    while i < n {
+        if s == from[i] {
+            if leads_to(per, i, d) {
+                at[i] = or_else(at[i], x);
+            }
+        }
+        i += 1;
+    }
+}
+
+// The arcs of all pairs in order, 0 for none.
+pub fn perimeter_arcs(arcs: &[ArcRow], per: Links) -> Links
+    ensures { λ r. ⌜ r ≡ linksOf (arcsOf (now (arcs .entry)) (listOf per)) ⌝ }
+{
+    let n = lists::size(per);
+    lists::known_few(per);
+    let mut at = [0u32; RING];
+    if arcs.len() > ROW_LIMIT {
+        return Links { at, len: n };
+    }
+    let seen = marks(per);
+    let mut i: usize = 0;
+    while i < arcs.len() {
+        if seen[rows::wide(arcs[i][0]) % MARKS] {
+            note(&mut at, per, arcs[i][0], arcs[i][1], i as u32 + 1);
+        }
+        i += 1;
+    }
+    Links { at, len: n }
+}

@@ -1,0 +1,32 @@
+use mathlib.Core.Path.{sym, _∙_}
+use borrow.Author.Tests.{not-true, not-false}
+use Rattle.sound.specs.Tests.{arcTest}
+use borrow.Author.Needs.{needs}
+use Rattle.sound.proofs.passes.arc_row.Statement.{statement}
+use Rattle.sound.proofs.passes.arc_row.Tie as tie
+
+blank6-requires : tie.Need-blank6-requires
+blank6-requires c κs = search needs
+
+returns : tie.Need-returns
+unfolding arcTest
+returns c = rw (sym (c .before .blank6 .ensures) ∙ not-true _ (c .if1 .taken))
+
+ends-row-requires : tie.Need-ends-row-requires
+ends-row-requires c κs = search needs
+
+returns-2 : tie.Need-returns-2
+unfolding arcTest
+returns-2 c = rw (sym (c .before .before .before .blank6 .ensures) ∙ not-false _ (c .before .before .if1 .left), sym (c .before .ends-row .ensures) ∙ not-true _ (c .if2 .taken))
+
+links-row-requires : tie.Need-links-row-requires
+links-row-requires c κs = search needs
+
+returns-3 : tie.Need-returns-3
+unfolding arcTest
+returns-3 c = rw (sym (c .before .before .before .before .blank6 .ensures) ∙ not-false _ (c .before .before .before .if1 .left), sym (c .before .before .ends-row .ensures) ∙ not-false _ (c .before .if2 .left)) (c .links-row .ensures)
+
+pub arc-row-spec : {M : Type 1} → statement M
+arc-row-spec =
+    tie.close
+    (tie.spec blank6-requires returns ends-row-requires returns-2 links-row-requires returns-3)

@@ -1,0 +1,79 @@
+use Prim.Native.Nat.{_+_, _-_, _≤_}
+use native.Mathlib.Omega.{arith}
+use mathlib.Core.Path.{sym, _∙_}
+use mathlib.Core.List.{[]}
+use lib.ListN.{length, getD}
+use borrow.Author.Tests.{not-true, not-false}
+use Rattle.rules.specs.Mesh.{mesh}
+use Rattle.names.proofs.Loops.{Passed, none-yet, one-more, all-passed, one-failed}
+use Rattle.sound.proofs.Rows.{vertices-rows}
+use Rattle.sound.specs.Tests.{vertexTest}
+use borrow.Author.Needs.{needs}
+use Rattle.sound.proofs.passes.vertices_sound.Statement.{statement}
+use Rattle.sound.proofs.passes.vertices_sound.Tie as tie
+
+abbrev Inv-loop : tie.InvT-loop
+Inv-loop vertices arcs counters i₀ i = (i ≤ length vertices) × Passed (λ j. vertexTest arcs (getD counters 0 0) (getD vertices j []) (j + 1)) i
+
+abbrev μ-loop : tie.MeasureT-loop
+μ-loop vertices arcs counters i₀ i = length vertices - i
+
+loop-holds : tie.Need-loop-holds Inv-loop μ-loop
+loop-holds c = (search needs, none-yet (λ j. vertexTest (c .args .arcs .now) (getD (c .args .counters .now) 0 0) (getD (c .args .vertices .now) j []) (j + 1)))
+
+element-copy-out-vertex-row : tie.Need-element-copy-out-vertex-row Inv-loop μ-loop
+element-copy-out-vertex-row c = search needs
+
+mul-vertex-row : tie.Need-mul-vertex-row Inv-loop μ-loop
+mul-vertex-row c = search needs
+
+shared-slice-copy-out-vertex-row : tie.Need-shared-slice-copy-out-vertex-row Inv-loop μ-loop
+shared-slice-copy-out-vertex-row c = search needs
+
+add-vertex-row : tie.Need-add-vertex-row Inv-loop μ-loop
+add-vertex-row c = search needs
+
+vertex-row-requires : tie.Need-vertex-row-requires Inv-loop μ-loop
+vertex-row-requires c κs = search needs
+
+returns : tie.Need-returns Inv-loop μ-loop
+returns c =
+    let l = c .before .before .before .before .before in
+    let a = l .before .args in
+    λ p e f. one-failed (λ j. vertexTest (a .arcs .now) (getD (a .counters .now) 0 0) (getD (a .vertices .now) j []) (j + 1)) (length (a .vertices .now)) (l .loop .i) (omega arith) (sym (c .before .vertex-row .ensures) ∙ not-true _ (c .if1 .taken)) ∙ sym (vertices-rows (mesh (a .vertices .now) p (a .arcs .now) e f (a .counters .now)))
+
+add-i : tie.Need-add-i Inv-loop μ-loop
+add-i c = search needs
+
+loop-less : tie.Need-loop-less Inv-loop μ-loop
+loop-less c = search needs
+
+loop-again : tie.Need-loop-again Inv-loop μ-loop
+loop-again c =
+    let l = c .before .before .before .before .before in
+    let a = l .before .args in
+    (search needs, one-more (λ j. vertexTest (a .arcs .now) (getD (a .counters .now) 0 0) (getD (a .vertices .now) j []) (j + 1)) (l .loop .i) (l .loop .inv .1) (sym (c .before .vertex-row .ensures) ∙ not-false _ (c .if1 .left)))
+
+returns-2 : tie.Need-returns-2 Inv-loop μ-loop
+returns-2 c =
+    let l = c .before in
+    let a = l .before .args in
+    λ p e f. all-passed (λ j. vertexTest (a .arcs .now) (getD (a .counters .now) 0 0) (getD (a .vertices .now) j []) (j + 1)) (length (a .vertices .now)) (l .loop .i) (omega arith) (omega arith) (l .loop .inv .1) ∙ sym (vertices-rows (mesh (a .vertices .now) p (a .arcs .now) e f (a .counters .now)))
+
+pub vertices-sound-spec : {M : Type 1} → statement M
+vertices-sound-spec =
+    tie.close
+    (tie.spec
+    Inv-loop
+    μ-loop
+    loop-holds
+    element-copy-out-vertex-row
+    mul-vertex-row
+    shared-slice-copy-out-vertex-row
+    add-vertex-row
+    vertex-row-requires
+    returns
+    add-i
+    loop-less
+    loop-again
+    returns-2)
