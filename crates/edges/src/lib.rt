@@ -5,4 +5,5 @@
 
 pub mod edge;
 pub mod face;
+pub mod free;
 pub mod vertex;

@@ -20,7 +20,7 @@ use Rattle.insert.specs.Perimeter.{listFrom, listsFrom, interiorTo, inte
 -- ---- an arc's ends
 
 -- a scan is unchanged by a store that passes the test as the old row does
-first-set : (p : List ℕ → Bool) (xs : Table) (i : ℕ) (y : List ℕ) → p y ≡ p (getD xs i []) → firstRow p (set xs i y) ≡ firstRow p xs
+pub first-set : (p : List ℕ → Bool) (xs : Table) (i : ℕ) (y : List ℕ) → p y ≡ p (getD xs i []) → firstRow p (set xs i y) ≡ firstRow p xs
 unfolding firstRow
 first-set p [] i y e = refl
 first-set p (x ∷ xs) zero y e = rw e

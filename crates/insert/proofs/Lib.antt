@@ -1,2 +1,3 @@
 pub mod FoundOnce
+pub mod Apart
 pub mod Loops

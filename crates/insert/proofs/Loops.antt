@@ -11,23 +11,20 @@ use borrow.Author.Tests.{eq-eqb, ne-eqb}
 use Rattle.rules.specs.declared.Links.{Links}
 use Rattle.rules.specs.Table.{Table, cell, put, upTo, after, orElse, freeRow, count, used}
 use Rattle.rules.specs.Mesh.{Mesh, mesh, with-arcs, oppositeOf, linksOf, listOf}
-use Rattle.rules.specs.Link.{getOrInsertEdge, arcCount}
+use Rattle.rules.specs.Link.{arcCount}
 use Rattle.rules.specs.Insert.{edgesIn, newFace, putFace, listsOf, facelessIn}
 use Rattle.rules.proofs.Scan.{upTo-more}
 use Rattle.rules.proofs.Places.{list-back}
 use Rattle.tables.specs.Sets.{over}
 use Rattle.pairs.specs.Pairs.{pairArc, arcsOf}
 use Rattle.pairs.proofs.Listed.{pair-listed, arcs-held}
-use Rattle.insert.specs.Perimeter.{listFrom, listsFrom, interiorTo, interiorBy, exteriorTo, exteriorBy}
+use Rattle.insert.specs.Perimeter.{edgeIn, listFrom, listsFrom, interiorTo, interiorBy, exteriorTo, exteriorBy}
 use Rattle.insert.proofs.FoundOnce.{lists-are, list-at-place, put-face-by}
 
 -- ---- the edges
 
-abbrev pub edgeIn : List ℕ → ℕ → Mesh → Mesh
-edgeIn per i m = getOrInsertEdge m (getD per i 0) (getD per (after (length per) i) 0)
-
-pub edges-more : {m m′ : Mesh} (m₀ : Mesh) (per : List ℕ) (i n j a b : ℕ) → n ≡ length per → j ≡ after n i → a ≡ getD per i 0 → b ≡ getD per j 0 → m ≡ upTo (edgeIn per) i m₀ → m′ ≡ getOrInsertEdge m a b → m′ ≡ upTo (edgeIn per) (i + 1) m₀
-edges-more m₀ per i n j a b en ej ea eb em e = rw (upTo-more, ← em, e, eb, ea, ej, en)
+pub edges-more : {m m′ : Mesh} (m₀ : Mesh) (per : List ℕ) (i : ℕ) → m ≡ upTo (edgeIn per) i m₀ → m′ ≡ edgeIn per i m → m′ ≡ upTo (edgeIn per) (i + 1) m₀
+edges-more m₀ per i em e = rw (upTo-more, ← em, e)
 
 -- ---- the interior
 

@@ -1,13 +1,28 @@
 -- Face insert as the code goes about it: the perimeter's arcs are found once, and every link is written by that list.
-use Prim.Native.Nat.{ℕ, _-_}
-use mathlib.Core.Bool.{cond}
+use Prim.Native.Nat.{ℕ, _<_}
+use mathlib.Core.Path.{_≡_}
+use mathlib.Core.Bool.{false, cond}
 use mathlib.Core.List.{List, [], map}
 use lib.ListN.{length, getD}
 use lib.Dec.{eqb}
 use Rattle.rules.specs.Table.{Table, cell, put, upTo, after, orElse}
-use Rattle.rules.specs.Mesh.{oppositeOf}
-use Rattle.rules.specs.Link.{walk, turnIn}
+use Rattle.rules.specs.Mesh.{Mesh, oppositeOf}
+use Rattle.rules.specs.Link.{walk, turnIn, getOrInsertEdge}
 use Rattle.rules.specs.Insert.{facelessIn}
+use Rattle.edges.specs.declared.free.Lowest.{Lowest}
+use Rattle.edges.specs.Free.{UsedBefore}
+use Rattle.pairs.specs.Pairs.{pairArc, metBefore}
+
+-- the edge of pair i is there, or is made
+abbrev pub edgeIn : List ℕ → ℕ → Mesh → Mesh
+edgeIn per i m = getOrInsertEdge m (getD per i 0) (getD per (after (length per) i) 0)
+
+-- what is known when it is asked for: x is the pair's arc, unless a pair before joins the same vertices; and every row before these is used
+pub record Asked (arcs edges : Table) (per : List ℕ) (i x : ℕ) (from : Lowest) : Type 0 where
+  pub on : i < length per
+  pub tells : metBefore per i i ≡ false → x ≡ pairArc arcs per i
+  pub arcs-used : UsedBefore arcs (from .arc)
+  pub edges-used : UsedBefore edges (from .edge)
 
 -- lists as they were: from these first arcs, in tables as they were, of at most so many arcs
 unfoldable pub listFrom : Table → Table → ℕ → ℕ → List ℕ

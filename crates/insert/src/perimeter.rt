@@ -1,6 +1,8 @@
 // The parts of a face insert: the leading arcs, the edges, the interior, the exterior. Document 01's rule 5:
 // "Then the edges, the face with the first perimeter arc, and the interior: link, then face, arc by arc. Then the exterior."
 
+use edges::edge;
+use edges::free::Lowest;
 use rules::ArcRow;
 use rules::EdgeRow;
 use rules::Links;
@@ -17,7 +19,8 @@ ghost use lib.Ieee.{Float};
 ghost use Rattle.rules.specs.Table.{Table, cell};
 ghost use Rattle.rules.specs.Mesh.{mesh, linksOf, listOf};
 ghost use Rattle.rules.specs.Insert.{edgesIn};
-ghost use Rattle.insert.specs.Perimeter.{listFrom, listsFrom, interiorBy, exteriorTo, exteriorBy};
+ghost use Rattle.edges.specs.Free.{UsedBefore};
+ghost use Rattle.insert.specs.Perimeter.{edgeIn, Asked, listFrom, listsFrom, interiorBy, exteriorTo, exteriorBy};
 
 // The leading arcs of the perimeter's vertices.
 pub fn leading_arcs(vertices: &[VertexRow], per: Links) -> Links
@@ -34,7 +37,34 @@ pub fn leading_arcs(vertices: &[VertexRow], per: Links) -> Links
     Links { at, len: n }
 }
 
-// The edges: each is there, or is made.
+// The edge of pair i is there, or is made: x is its arc as it was before the edges. That tells, unless a pair before joins the same vertices.
+fn edge_in(
+    vertices: &mut [VertexRow],
+    arcs: &mut [ArcRow],
+    edges: &mut [EdgeRow],
+    counters: &mut [u32; 3],
+    per: Links,
+    i: usize,
+    x: u32,
+    from: Lowest,
+) -> Lowest
+    requires { ⌜ Asked (now arcs) (now edges) (listOf per) i x from ⌝ }
+    ensures { λ r. ⌜ ((p : List (List Float)) (f : Table) → mesh (now (vertices .exit)) p (now (arcs .exit)) (now (edges .exit)) f (now (counters .exit)) ≡ edgeIn (listOf per) i (mesh (now (vertices .entry)) p (now (arcs .entry)) (now (edges .entry)) f (now (counters .entry)))) × (UsedBefore (now (arcs .exit)) (r .arc) × UsedBefore (now (edges .exit)) (r .edge)) ⌝ }
+{
+    let n = lists::size(per);
+    let a = lists::item(per, i);
+    let b = lists::item(per, lists::place_after(n, i));
+    if pairs::met_before(per, i) {
+        edge::get_or_insert_edge(vertices, arcs, edges, counters, a, b);
+        return from;
+    }
+    if x != 0 {
+        return from;
+    }
+    edge::new_edge_from(vertices, arcs, edges, counters, from, a, b)
+}
+
+// The edges: each is there, or is made. The arcs that are there are found in one pass before.
 pub fn edges_in(
     vertices: &mut [VertexRow],
     arcs: &mut [ArcRow],
@@ -45,11 +75,13 @@ pub fn edges_in(
     ensures { λ _. ⌜ ((p : List (List Float)) (f : Table) → mesh (now (vertices .exit)) p (now (arcs .exit)) (now (edges .exit)) f (now (counters .exit)) ≡ edgesIn (listOf per) (mesh (now (vertices .entry)) p (now (arcs .entry)) (now (edges .entry)) f (now (counters .entry)))) ⌝ }
 {
     let n = lists::size(per);
+    lists::known_few(per);
+    let xs = pairs::perimeter_arcs(arcs, per);
+    let mut from = Lowest { arc: 0, edge: 0 };
     let mut i: usize = 0;
     while i < n {
-        let a = lists::item(per, i);
-        let b = lists::item(per, lists::place_after(n, i));
-        edges::edge::get_or_insert_edge(vertices, arcs, edges, counters, a, b);
+        let found = lists::item(xs, i);
+        from = edge_in(vertices, arcs, edges, counters, per, i, found, from);
         i += 1;
     }
 }

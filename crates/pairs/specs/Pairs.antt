@@ -1,10 +1,10 @@
 -- The arcs of a perimeter's pairs, and the steps by which one pass over the arc table finds them.
 use Prim.Native.Nat.{ℕ, _+_, _%_}
-use mathlib.Core.Bool.{Bool, true, false, _&&_, cond}
+use mathlib.Core.Bool.{Bool, true, false, _&&_, _||_, cond}
 use mathlib.Core.List.{List, [], _∷_, _++_}
 use lib.ListN.{length, getD, set, replicate}
 use lib.Dec.{eqb}
-use Rattle.rules.specs.Table.{Table, upTo, after, orElse}
+use Rattle.rules.specs.Table.{Table, someBelow, upTo, after, orElse}
 use Rattle.rules.specs.Mesh.{arcBetween}
 
 -- the list of f at 0, 1, up to n - 1
@@ -37,3 +37,16 @@ noteAt per s d x i at = cond (isPair per i s d) (set at i (orElse (getD at i 0) 
 
 unfoldable pub noted : List ℕ → ℕ → ℕ → ℕ → List ℕ → List ℕ
 noted per s d x at = cond (eqb s 0) at (upTo (noteAt per s d x) (length per) at)
+
+-- ---- pairs that join the same two vertices
+
+-- s and d are a and b, in either order
+unfoldable pub sameTwo : ℕ → ℕ → ℕ → ℕ → Bool
+sameTwo s d a b = (eqb s a && eqb d b) || (eqb d a && eqb s b)
+
+-- pair j joins a and b; a pair before i joins the two vertices of pair k
+unfoldable pub meets : List ℕ → ℕ → ℕ → ℕ → Bool
+meets per a b j = sameTwo (getD per j 0) (getD per (after (length per) j) 0) a b
+
+unfoldable pub metBefore : List ℕ → ℕ → ℕ → Bool
+metBefore per i k = someBelow (meets per (getD per k 0) (getD per (after (length per) k) 0)) i

@@ -1,5 +1,6 @@
 // The arcs of a perimeter's pairs, found in one pass over the arc table. Pair i of a perimeter runs from its vertex i to the one after.
 // It carries the lookups of document 01's rule 5: "perimeter pairs in order: an existing arc ..". Each of them alone is `rows::find_arc`.
+// And whether two pairs join the same vertices: an edge that is made for one pair is then another pair's too.
 
 use rules::ArcRow;
 use rules::Links;
@@ -11,7 +12,7 @@ ghost use lib.ListN.{length, getD};
 ghost use lib.Dec.{eqb};
 ghost use Rattle.rules.specs.Table.{after, orElse};
 ghost use Rattle.rules.specs.Mesh.{linksOf, listOf};
-ghost use Rattle.pairs.specs.Pairs.{arcsOf, marksOf, noted};
+ghost use Rattle.pairs.specs.Pairs.{arcsOf, marksOf, noted, sameTwo, metBefore};
 
 // The largest table that has links to give.
 const ROW_LIMIT: usize = 16384;
@@ -93,4 +94,39 @@ pub fn perimeter_arcs(arcs: &[ArcRow], per: Links) -> Links
         i += 1;
     }
     Links { at, len: n }
+}
+
+// Whether s and d are a and b, in either order.
+fn same_two(s: u32, d: u32, a: u32, b: u32) -> bool
+    ensures { λ r. ⌜ r ≡ sameTwo s d a b ⌝ }
+{
+    if s == a {
+        if d == b {
+            return true;
+        }
+    }
+    if d != a {
+        return false;
+    }
+    s == b
+}
+
+// Whether a pair before i joins the same two vertices as pair i.
+pub fn met_before(per: Links, i: usize) -> bool
+    requires { ⌜ i < length (listOf per) ⌝ }
+    ensures { λ r. ⌜ r ≡ metBefore (listOf per) i i ⌝ }
+{
+    let n = lists::size(per);
+    lists::known_few(per);
+    let a = lists::item(per, i);
+    let b = lists::item(per, lists::place_after(n, i));
+    let at = per.at;
+    let mut j: usize = 0;
+    while j < i {
+        if same_two(at[j], at[j + 1], a, b) {
+            return true;
+        }
+        j += 1;
+    }
+    false
 }

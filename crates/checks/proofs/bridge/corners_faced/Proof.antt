@@ -12,7 +12,7 @@ use Rattle.rules.specs.Table.{Table, someBelow}
 use Rattle.rules.specs.Mesh.{mesh, listOf}
 use Rattle.rules.specs.Insert.{hasFace}
 use Rattle.pairs.specs.Pairs.{arcsOf}
-use Rattle.checks.proofs.Below.{some-more, some-here}
+use Rattle.pairs.proofs.Below.{some-more, some-here}
 use Rattle.checks.proofs.Pairs.{four-held}
 
 abbrev Inv-loop : tie.InvT-loop
@@ -37,12 +37,17 @@ loop-holds c = (search needs, λ vs ps es fs ks four e. refl)
 has-face-requires : tie.Need-has-face-requires Inv-loop μ-loop
 has-face-requires c κs = search needs
 
+-- the list of arcs, at the loop
+held : (l : tie.At-loop Inv-loop μ-loop) → let a = l .before .before .before .before .args in listOf (l .before .perimeter-arcs .result) ≡ arcsOf (a .arcs .now) (a .four)
+held l =
+    let a = l .before .before .before .before .args in
+    four-held (a .arcs .now) (a .four) (l .before .before .corner-list .result) (l .before .perimeter-arcs .result) (l .before .before .before .known-four .ensures) (l .before .before .corner-list .ensures) (l .before .perimeter-arcs .ensures)
+
 returns : tie.Need-returns Inv-loop μ-loop
 returns c =
     let l = c .before .before .before in
     let a = l .before .before .before .before .args in
-    let held = four-held (a .arcs .now) (a .four) (l .before .before .corner-list .result) (l .before .perimeter-arcs .result) (l .before .before .before .known-four .ensures) (l .before .before .corner-list .ensures) (l .before .perimeter-arcs .ensures) in
-    λ vs ps es fs ks. sym (some-here (hasFace (mesh vs ps (a .arcs .now) es fs ks) (a .four)) 4 (l .loop .i) (search needs) (sym (c .before .has-face .ensures vs ps es fs ks (a .four) held) ∙ c .if1 .taken))
+    λ vs ps es fs ks. sym (some-here (hasFace (mesh vs ps (a .arcs .now) es fs ks) (a .four)) 4 (l .loop .i) (search needs) (sym (c .before .has-face .ensures vs ps es fs ks (a .four) (held l)) ∙ c .if1 .taken))
 
 add-i : tie.Need-add-i Inv-loop μ-loop
 add-i c = search needs
@@ -61,8 +66,7 @@ returns-2 c =
     let l = c .before in
     let a = l .before .before .before .before .args in
     let all : l .loop .i ≡ 4 = omega arith in
-    let held = four-held (a .arcs .now) (a .four) (l .before .before .corner-list .result) (l .before .perimeter-arcs .result) (l .before .before .before .known-four .ensures) (l .before .before .corner-list .ensures) (l .before .perimeter-arcs .ensures) in
-    λ vs ps es fs ks. sym (rw all at (l .loop .inv .1 vs ps es fs ks (a .four) held))
+    λ vs ps es fs ks. sym (rw all at (l .loop .inv .1 vs ps es fs ks (a .four) (held l)))
 
 pub corners-faced-spec : {M : Type 1} → statement M
 corners-faced-spec =

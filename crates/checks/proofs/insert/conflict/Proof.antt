@@ -12,8 +12,9 @@ use lib.Ieee.{Float}
 use Rattle.rules.specs.Table.{Table, someBelow}
 use Rattle.rules.specs.Mesh.{mesh, listOf}
 use Rattle.rules.specs.Insert.{conflict}
-use Rattle.checks.proofs.Below.{some-more, some-here}
+use Rattle.pairs.proofs.Below.{some-more, some-here}
 use Rattle.checks.proofs.Pairs.{clash}
+use Rattle.pairs.specs.Pairs.{arcsOf}
 use Rattle.pairs.proofs.Listed.{arcs-held}
 
 abbrev Inv-loop : tie.InvT-loop
@@ -38,13 +39,18 @@ loop-holds c = (search needs, λ vs ps es fs ks. refl)
 has-face-requires : tie.Need-has-face-requires Inv-loop μ-loop
 has-face-requires c κs = search needs
 
+-- the list of arcs, at the loop
+held : (l : tie.At-loop Inv-loop μ-loop) → let a = l .before .before .before .before .args in listOf (l .before .perimeter-arcs .result) ≡ arcsOf (a .arcs .now) (listOf (a .per))
+held l =
+    let a = l .before .before .before .before .args in
+    arcs-held (a .arcs .now) (listOf (a .per)) (l .before .perimeter-arcs .result) (l .before .before .known-few .ensures) (l .before .perimeter-arcs .ensures)
+
 returns : tie.Need-returns Inv-loop μ-loop
 unfolding conflict
 returns c =
     let l = c .before .before .before in
     let a = l .before .before .before .before .args in
-    let held = arcs-held (a .arcs .now) (listOf (a .per)) (l .before .perimeter-arcs .result) (l .before .before .known-few .ensures) (l .before .perimeter-arcs .ensures) in
-    λ vs ps es fs ks. sym (some-here (clash (mesh vs ps (a .arcs .now) es fs ks) (listOf (a .per))) (length (listOf (a .per))) (l .loop .i) (omega (arith, l .before .before .before .size .ensures)) (rw (sym (c .before .has-face .ensures vs ps es fs ks (listOf (a .per)) held) ∙ c .if1 .taken)))
+    λ vs ps es fs ks. sym (some-here (clash (mesh vs ps (a .arcs .now) es fs ks) (listOf (a .per))) (length (listOf (a .per))) (l .loop .i) (omega (arith, l .before .before .before .size .ensures)) (rw (sym (c .before .has-face .ensures vs ps es fs ks (listOf (a .per)) (held l)) ∙ c .if1 .taken)))
 
 leads-back-requires : tie.Need-leads-back-requires Inv-loop μ-loop
 leads-back-requires c κs = search needs
@@ -54,8 +60,7 @@ unfolding conflict
 returns-2 c =
     let l = c .before .before .before .before .before in
     let a = l .before .before .before .before .args in
-    let held = arcs-held (a .arcs .now) (listOf (a .per)) (l .before .perimeter-arcs .result) (l .before .before .known-few .ensures) (l .before .perimeter-arcs .ensures) in
-    λ vs ps es fs ks. sym (some-here (clash (mesh vs ps (a .arcs .now) es fs ks) (listOf (a .per))) (length (listOf (a .per))) (l .loop .i) (omega (arith, l .before .before .before .size .ensures)) (rw (sym (c .before .before .before .has-face .ensures vs ps es fs ks (listOf (a .per)) held) ∙ c .before .before .if1 .left, sym (c .before .leads-back .ensures vs ps es fs ks held) ∙ c .if2 .taken)))
+    λ vs ps es fs ks. sym (some-here (clash (mesh vs ps (a .arcs .now) es fs ks) (listOf (a .per))) (length (listOf (a .per))) (l .loop .i) (omega (arith, l .before .before .before .size .ensures)) (rw (sym (c .before .before .before .has-face .ensures vs ps es fs ks (listOf (a .per)) (held l)) ∙ c .before .before .if1 .left, sym (c .before .leads-back .ensures vs ps es fs ks (held l)) ∙ c .if2 .taken)))
 
 add-i : tie.Need-add-i Inv-loop μ-loop
 add-i c = search needs
@@ -67,8 +72,7 @@ loop-again : tie.Need-loop-again Inv-loop μ-loop
 loop-again c =
     let l = c .before .before .before .before .before in
     let a = l .before .before .before .before .args in
-    let held = arcs-held (a .arcs .now) (listOf (a .per)) (l .before .perimeter-arcs .result) (l .before .before .known-few .ensures) (l .before .perimeter-arcs .ensures) in
-    (search needs, λ vs ps es fs ks. some-more (clash (mesh vs ps (a .arcs .now) es fs ks) (listOf (a .per))) (l .loop .i) (l .loop .inv .1 vs ps es fs ks) (rw (sym (c .before .before .before .has-face .ensures vs ps es fs ks (listOf (a .per)) held) ∙ c .before .before .if1 .left, sym (c .before .leads-back .ensures vs ps es fs ks held) ∙ c .if2 .left)))
+    (search needs, λ vs ps es fs ks. some-more (clash (mesh vs ps (a .arcs .now) es fs ks) (listOf (a .per))) (l .loop .i) (l .loop .inv .1 vs ps es fs ks) (rw (sym (c .before .before .before .has-face .ensures vs ps es fs ks (listOf (a .per)) (held l)) ∙ c .before .before .if1 .left, sym (c .before .leads-back .ensures vs ps es fs ks (held l)) ∙ c .if2 .left)))
 
 returns-3 : tie.Need-returns-3 Inv-loop μ-loop
 unfolding conflict

@@ -1,4 +1,4 @@
--- `checks::split::held_by_other` meets its contract. The loop keeps that no pair passed by is held by another face; laws of Below. Assumes nothing.
+-- `checks::split::held_by_other` meets its contract. The loop keeps that no pair passed by is (held l) by another face; laws of Below. Assumes nothing.
 use borrow.Author.Needs.{needs}
 use Rattle.checks.proofs.split.held_by_other.Statement.{statement}
 use Rattle.checks.proofs.split.held_by_other.Tie as tie
@@ -12,7 +12,7 @@ use lib.Ieee.{Float}
 use Rattle.rules.specs.Table.{Table, someBelow}
 use Rattle.rules.specs.Mesh.{mesh, listOf}
 use Rattle.rules.specs.Edit.{heldByOther}
-use Rattle.checks.proofs.Below.{some-more, some-here}
+use Rattle.pairs.proofs.Below.{some-more, some-here}
 use Rattle.checks.proofs.Pairs.{taken}
 use Rattle.pairs.specs.Pairs.{arcsOf}
 use Rattle.pairs.proofs.Listed.{arcs-held}
@@ -39,13 +39,18 @@ loop-holds c = (search needs, λ vs ps es fs ks per e. refl)
 other-holds-requires : tie.Need-other-holds-requires Inv-loop μ-loop
 other-holds-requires c κs = search needs
 
+-- the list of arcs, at the loop
+held : (l : tie.At-loop Inv-loop μ-loop) → let a = l .before .before .before .before .args in listOf (l .before .perimeter-arcs .result) ≡ arcsOf (a .arcs .now) (listOf (a .per))
+held l =
+    let a = l .before .before .before .before .args in
+    arcs-held (a .arcs .now) (listOf (a .per)) (l .before .perimeter-arcs .result) (l .before .before .known-few .ensures) (l .before .perimeter-arcs .ensures)
+
 returns : tie.Need-returns Inv-loop μ-loop
 unfolding heldByOther
 returns c =
     let l = c .before .before .before in
     let a = l .before .before .before .before .args in
-    let held = arcs-held (a .arcs .now) (listOf (a .per)) (l .before .perimeter-arcs .result) (l .before .before .known-few .ensures) (l .before .perimeter-arcs .ensures) in
-    λ vs ps es fs ks. sym (some-here (taken (mesh vs ps (a .arcs .now) es fs ks) (a .f) (listOf (a .per))) (length (listOf (a .per))) (l .loop .i) (omega (arith, l .before .before .before .size .ensures)) (sym (c .before .other-holds .ensures vs ps es fs ks (listOf (a .per)) held) ∙ c .if1 .taken))
+    λ vs ps es fs ks. sym (some-here (taken (mesh vs ps (a .arcs .now) es fs ks) (a .f) (listOf (a .per))) (length (listOf (a .per))) (l .loop .i) (omega (arith, l .before .before .before .size .ensures)) (sym (c .before .other-holds .ensures vs ps es fs ks (listOf (a .per)) (held l)) ∙ c .if1 .taken))
 
 add-i : tie.Need-add-i Inv-loop μ-loop
 add-i c = search needs
@@ -65,8 +70,7 @@ returns-2 c =
     let l = c .before in
     let a = l .before .before .before .before .args in
     let all : l .loop .i ≡ length (listOf (a .per)) = omega (arith, l .before .before .before .size .ensures) in
-    let held = arcs-held (a .arcs .now) (listOf (a .per)) (l .before .perimeter-arcs .result) (l .before .before .known-few .ensures) (l .before .perimeter-arcs .ensures) in
-    λ vs ps es fs ks. sym (rw all at (l .loop .inv .1 vs ps es fs ks (listOf (a .per)) held))
+    λ vs ps es fs ks. sym (rw all at (l .loop .inv .1 vs ps es fs ks (listOf (a .per)) (held l)))
 
 pub held-by-other-spec : {M : Type 1} → statement M
 held-by-other-spec =

@@ -1,5 +1,5 @@
 -- An edge is made where there is no arc from a to b, and else nothing is written.
-use mathlib.Core.Path.{refl, sym, _∙_}
+use mathlib.Core.Path.{sym, _∙_}
 use borrow.Author.Tests.{eq-eqb, ne-eqb}
 use Rattle.rules.specs.Link.{getOrInsertEdge}
 use borrow.Author.Needs.{needs}

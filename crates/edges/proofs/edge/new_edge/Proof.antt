@@ -1,31 +1,14 @@
--- Two new arcs, the second on what the first left; then the record and the counter.
-use mathlib.Core.Path.{refl}
+-- An edge whose rows are looked for from the first row on.
 use denote.Ref.{now}
-use Rattle.rules.specs.Link.{newEdge}
 use borrow.Author.Needs.{needs}
+use Rattle.edges.proofs.Searches.{used-none}
 use Rattle.edges.proofs.edge.new_edge.Statement.{statement}
 use Rattle.edges.proofs.edge.new_edge.Tie as tie
 
-free3-requires : tie.Need-free3-requires
-free3-requires c κs = search needs
-
-new-arc-requires : tie.Need-new-arc-requires
-new-arc-requires c κs = search needs
-
-new-arc-requires-2 : tie.Need-new-arc-requires-2
-new-arc-requires-2 c κs = search needs
-
-element-copy-out-key : tie.Need-element-copy-out-key
-element-copy-out-key c = search needs
-
-one-up-requires : tie.Need-one-up-requires
-one-up-requires c κs = search needs
-
-put-row3-requires : tie.Need-put-row3-requires
-put-row3-requires c κs = search needs
-
-element-write-counters : tie.Need-element-write-counters
-element-write-counters c = search needs
+new-edge-from-requires : tie.Need-new-edge-from-requires
+new-edge-from-requires c κs =
+    let a = c .before .before .before .before .args in
+    (used-none (now (a .arcs)), used-none (now (a .edges)))
 
 same-length : tie.Need-same-length
 same-length c = search needs
@@ -37,27 +20,13 @@ same-length-3 : tie.Need-same-length-3
 same-length-3 c = search needs
 
 returns : tie.Need-returns
-unfolding newEdge
-returns c =
-    λ p f.
-    let s = c .before .before .before .before .before .before .before .before .before .before .before .before .before .before .before .before .before in
-    let e = now (s .args .edges) in
-    let k = now (s .args .counters) in
-    let one = c .before .before .before .before .before .before .before .before .before .before .before .before .new-arc in
-    let two = c .before .before .before .before .before .before .before .new-arc2 in
-    rw (← c .before .before .before .before .before .before .before .before .before .before .before .before .before .before .before .free3 .ensures, ← one .ensures .1 p e f k, ← two .ensures .1 p e f k, ← one .ensures .0, ← two .ensures .0, ← c .before .before .before .one-up .ensures, ← c .before .put-row3 .ensures)
+returns c = λ p f. c .before .before .before .new-edge-from .ensures .1 p f
 
 pub new-edge-spec : {M : Type 1} → statement M
 new-edge-spec =
     tie.close
     (tie.spec
-    free3-requires
-    new-arc-requires
-    new-arc-requires-2
-    element-copy-out-key
-    one-up-requires
-    put-row3-requires
-    element-write-counters
+    new-edge-from-requires
     same-length
     same-length-2
     same-length-3
