@@ -3,3 +3,4 @@ pub mod Pairs
 pub mod Bounds
 pub mod Stretches
 pub mod Splits
+pub mod Ends

@@ -3,6 +3,7 @@
 
 use crate::bridge;
 use crate::extrude;
+use crate::free;
 use crate::insert;
 use crate::rings;
 use crate::split;
@@ -210,13 +211,13 @@ pub fn need_of(
 pub fn rows_for(vertices: &[VertexRow], edges: &[EdgeRow], faces: &[FaceRow], need: Need) -> bool
     ensures { λ r. ⌜ ((ps : List (List Float)) (ar : Table) (ks : List ℕ) → r ≡ Call.rowsFor (mesh (now (vertices .entry)) ps ar (now (edges .entry)) (now (faces .entry)) ks) (Call.needs (need .vertices) (need .edges) (need .faces) (need .facekeys))) ⌝ }
 {
-    if need.vertices > rows::count_free2(vertices) {
+    if !free::enough2(vertices, need.vertices) {
         return false;
     }
-    if need.edges > rows::count_free3(edges) {
+    if !free::enough3(edges, need.edges) {
         return false;
     }
-    need.faces <= rows::count_free3(faces)
+    free::enough3(faces, need.faces)
 }
 
 // As many keys as there are: the last is 4,294,967,294.

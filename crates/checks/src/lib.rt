@@ -4,6 +4,7 @@
 pub mod bridge;
 pub mod call;
 pub mod extrude;
+pub mod free;
 pub mod insert;
 pub mod rings;
 pub mod split;
