@@ -17,11 +17,11 @@ use Rattle.rules.specs.Link.{ring}
 use Rattle.rules.specs.Sound.{unlessNone, faceExists, namesHolder, comesBack, threeToLimit, sourcesDiffer, ringHolds, holdersOnRing, runsBack, ringSound, ringsSound}
 use Rattle.rules.proofs.Scan.{every-passes}
 use Rattle.rules.proofs.Counts.{bit}
-use Rattle.rules.proofs.Sums.{or-cases, sum-ext, sum-zero, every-has, distinct-map, sum-list, count-sum}
-use Rattle.proved.specs.Demand.{holds, Holds, holders, allHolders}
-use Rattle.proved.proofs.Rows.{T-true, T-false, true-T, so-if, in-table, used-at, used-all}
+use Rattle.rules.proofs.Sums.{or-l, or-r, or-cases, sum-ext, sum-zero, every-has, distinct-map, sum-list, count-sum}
+use Rattle.proved.specs.Demand.{holds, holdsSome, Holds, holders, allHolders}
+use Rattle.proved.proofs.Rows.{T-true, T-false, true-T, differ-T, cell-row, there-row, link-row, so-if, in-table, used-at, used-all}
 use Rattle.proved.proofs.Ring.{ring-parts, ring-whole, row-holds, holds-row, ring-counts}
-use Rattle.proved.proofs.Totals.{sum-le, bit-le, count-by-face}
+use Rattle.proved.proofs.Totals.{sum-le, sum-swap, sum-hit-le, bit-le, count-by-face}
 use Rattle.sound.specs.Rings.{ringWhole, ringLength}
 
 -- ---- one ring
@@ -107,7 +107,7 @@ module _ (m : Mesh) (f : ℕ) (w : RingWhole m f) where
   arc-count : ℕ
   arc-count = length (m .arcs)
 
-  on-ring : (x : ℕ) → T (has (ring m f) x) → Holds m f x
+  pub on-ring : (x : ℕ) → T (has (ring m f) x) → Holds m f x
   unfolding ringHolds
   on-ring x i =
       let h = every-has (λ y. there (m .arcs) y && eqb (face m y) f) (ring m f) (w .ring-holds) x i in
@@ -227,3 +227,91 @@ module _ (m : Mesh) (s : T (faceExists m)) where
           let n : length (ring m (i + 1)) ≡ holders m (i + 1) = rw u' at (same i (omega arith)) in
           let w = whole-at f u in
           sound-from m f w (all-on-ring m f w (subst (λ (y : ℕ). length (ring m y) ≡ holders m y) z n))
+
+-- ---- the sum tells that the faces exist: an arc that held another would be counted at no ring
+
+module _ (m : Mesh) where
+  -- the row k holds the face in the row i, which is in use
+  abbrev hit : ℕ → ℕ → ℕ
+  hit k i = bit (there (m .faces) (i + 1) && holds (i + 1) (getD (m .arcs) k []))
+
+  hit-none : (k i : ℕ) → (T (there (m .faces) (i + 1)) → T (holds (i + 1) (getD (m .arcs) k [])) → ⊥) → hit k i ≡ 0
+  hit-none k i h =
+      let u = there (m .faces) (i + 1) in
+      let t = holds (i + 1) (getD (m .arcs) k []) in
+      ap bit (T-false (u && t) (lib.Dec.not-T (u && t) (λ b. h (and-l u t b) (and-r u t b))))
+
+  -- column by column
+  column : (i : ℕ) → cond (there (m .faces) (i + 1)) (holders m (i + 1)) 0 ≡ sumBelow (λ k. hit k i) (length (m .arcs))
+  column i = go (there (m .faces) (i + 1))
+    where
+      go : (b : Bool) → cond b (holders m (i + 1)) 0 ≡ sumBelow (λ k. bit (b && holds (i + 1) (getD (m .arcs) k []))) (length (m .arcs))
+      go true = count-sum (holds (i + 1)) (m .arcs) []
+      go false = sym (sum-zero (λ k. bit (false && holds (i + 1) (getD (m .arcs) k []))) (length (m .arcs)) (λ k l. refl))
+
+  -- and row by row
+  module _ (k : ℕ) where
+    abbrev row : List ℕ
+    row = getD (m .arcs) k []
+
+    abbrev its : ℕ
+    its = getD (getD (m .arcs) k []) 4 0
+
+    at-face : (i : ℕ) → T (holds (i + 1) row) → its ≡ i + 1
+    at-face i t = eqb→eq its (i + 1) (and-r (used row) (eqb its (i + 1)) t)
+
+    row-le : sumBelow (hit k) (length (m .faces)) ≤ bit (holdsSome row)
+    row-le = go (holdsSome row) refl
+      where
+        go : (b : Bool) → holdsSome row ≡ b → sumBelow (hit k) (length (m .faces)) ≤ bit b
+        go true e =
+            let once = sum-le (hit k) (λ i. bit (eqb its (i + 1))) (length (m .faces)) (λ i l. bit-le (there (m .faces) (i + 1) && holds (i + 1) row) (eqb its (i + 1)) (λ t. and-r (used row) (eqb its (i + 1)) (and-r (there (m .faces) (i + 1)) (holds (i + 1) row) t))) in
+            omega (arith, once, sum-hit-le its (length (m .faces)))
+        go false e =
+            let none = sum-zero (hit k) (length (m .faces)) (λ i l. hit-none k i (λ u t. subst T e (and-i (used row) (not (eqb its 0)) (and-l (used row) (eqb its (i + 1)) t) (differ-T its 0 (λ z. let q = at-face i t in omega arith))))) in
+            omega (arith, none)
+
+    row-none : there (m .faces) its ≡ false → sumBelow (hit k) (length (m .faces)) ≡ 0
+    row-none e =
+        sum-zero (hit k) (length (m .faces)) (λ i l. hit-none k i (λ u t. subst T e (subst (λ (z : ℕ). T (there (m .faces) z)) (sym (at-face i t)) u)))
+
+  abbrev rowSums : ℕ → ℕ
+  rowSums k = sumBelow (hit k) (length (m .faces))
+
+  abbrev rowBits : ℕ → ℕ
+  rowBits k = bit (holdsSome (getD (m .arcs) k []))
+
+  pub faces-from : T (eachUsed (ringWhole m) (m .faces)) → sumBelow (onRings m) (length (m .faces)) ≡ allHolders m → T (faceExists m)
+  unfolding faceExists
+  faces-from h e = used-all (λ x. unlessNone (face m x) (there (m .faces) (face m x))) (m .arcs) at
+    where
+      below : (i : ℕ) → i < length (m .faces) → onRings m i ≤ sumBelow (λ k. hit k i) (length (m .arcs))
+      below i l = go (there (m .faces) (i + 1)) refl (column i)
+        where
+          go : (b : Bool) → there (m .faces) (i + 1) ≡ b → cond b (holders m (i + 1)) 0 ≡ sumBelow (λ k. hit k i) (length (m .arcs)) → cond b (length (ring m (i + 1))) 0 ≤ sumBelow (λ k. hit k i) (length (m .arcs))
+          go true q c = omega (arith, c, ring-le m (i + 1) (whole-parts m (i + 1) (used-at (ringWhole m) (m .faces) h (i + 1) (true-T q))))
+          go false q c = zero-le
+
+      same : (k : ℕ) → k < length (m .arcs) → rowSums k ≡ rowBits k
+      same =
+          sum-tight rowSums rowBits (length (m .arcs)) (λ k l. row-le k) (omega (arith, e, sum-le (onRings m) (λ i. sumBelow (λ k. hit k i) (length (m .arcs))) (length (m .faces)) below, sum-swap hit (length (m .arcs)) (length (m .faces)), sum-le rowSums rowBits (length (m .arcs)) (λ k l. row-le k), count-sum holdsSome (m .arcs) []))
+
+      there-at : (k : ℕ) → k < length (m .arcs) → T (used (getD (m .arcs) k [])) → T (unlessNone (getD (getD (m .arcs) k []) 4 0) (there (m .faces) (getD (getD (m .arcs) k []) 4 0)))
+      there-at k l u = go (eqb (its k) 0) refl (there (m .faces) (its k)) refl
+        where
+          go : (a : Bool) → eqb (its k) 0 ≡ a → (b : Bool) → there (m .faces) (its k) ≡ b → T (a || b)
+          go true p b q = tt
+          go false p true q = tt
+          go false p false q =
+              let s : holdsSome (row k) ≡ true = rw (T-true (used (row k)) u, p) in
+              let z : ⊥ = omega (arith, row-none k q, same k l, ap bit s) in
+              absurd z
+
+      at : (x : ℕ) → T (there (m .arcs) x) → T (unlessNone (face m x) (there (m .faces) (face m x)))
+      at x u =
+          let b = in-table (m .arcs) x u in
+          let k : ℕ = x - 1 in
+          let z : k + 1 ≡ x = link-row x (b .0) in
+          let c : getD (getD (m .arcs) k []) 4 0 ≡ face m x = sym (cell-row (m .arcs) k 4) ∙ ap (face m) z in
+          let w : T (used (getD (m .arcs) k [])) = subst T (there-row (m .arcs) k) (subst (λ (y : ℕ). T (there (m .arcs) y)) (sym z) u) in
+          subst (λ (y : ℕ). T (unlessNone y (there (m .faces) y))) c (there-at k (omega arith) w)

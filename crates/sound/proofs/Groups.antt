@@ -7,7 +7,7 @@ use lib.Dec.{T}
 use lib.Ieee.Fits.{and-l, and-r, and-i}
 use Rattle.rules.specs.Table.{Table, count}
 use Rattle.rules.specs.Mesh.{Mesh, source, dest, nextKey, vertexKind, edgeKind, faceKind}
-use Rattle.rules.specs.Sound.{Sound, sound, withinLimits, keysDiffer, keysBelow, bothArcs, endsDiffer, endsExist, pairsDiffer, edgeJoins, leadsOut, nextLeaves, previousArrives, faceExists, ringsSound, unusedZero, positionsZero, restZero, allFinite}
+use Rattle.rules.specs.Sound.{Sound, sound, withinLimits, keysDiffer, keysBelow, bothArcs, endsDiffer, endsExist, pairsDiffer, edgeJoins, leadsOut, unusedZero, positionsZero, restZero, allFinite}
 use Rattle.rules.proofs.Sums.{same-test}
 use Rattle.proved.proofs.Rows.{T-true, true-T}
 use Rattle.proved.proofs.SoundParts.{parts, whole}
@@ -15,7 +15,9 @@ use Rattle.proved.specs.Demand.{holdsSome}
 use Rattle.proved.specs.Facts.{IsArc, IsVertex}
 use Rattle.proved.proofs.Clauses as facts
 use Rattle.proved.proofs.Edges.{Edges}
-use Rattle.sound.specs.Parts.{below, verticesSound, positionsSound, arcsSound, edgesSound, facesSound, rowsSound, heldIf}
+use Rattle.sound.specs.Parts.{below, verticesSound, positionsSound, edgeEnds, looseLinks, arcsSound, edgesSound, facesSound, rowsSound, heldIf}
+use Rattle.sound.specs.Rings.{ringsFull}
+use Rattle.sound.proofs.RingTell.{full-faces, full-rings, full-next, full-previous, sound-full, sound-loose, sound-ends, all-differ, all-exist}
 
 -- what a sound mesh has, and this one has not
 pub lacks : (m : Mesh) (b : Bool) → (T (sound m) → T b) → b ≡ false → false ≡ sound m
@@ -42,13 +44,10 @@ pub record RowsTell (m : Mesh) : Type 0 where
   pub within-limits : T (withinLimits m)
   pub keys-below : T (keysBelow m)
   pub both-arcs : T (bothArcs m)
-  pub ends-differ : T (endsDiffer m)
-  pub ends-exist : T (endsExist m)
+  pub edge-ends : T (edgeEnds m)
   pub edge-joins : T (edgeJoins m)
   pub leads-out : T (leadsOut m)
-  pub next-leaves : T (nextLeaves m)
-  pub previous-arrives : T (previousArrives m)
-  pub face-exists : T (faceExists m)
+  pub loose-links : T (looseLinks m)
   pub rest-zero : T (restZero m)
   pub all-finite : T (allFinite m)
 
@@ -75,27 +74,21 @@ module _ (m : Mesh) where
       let f = and-l (facesSound m) _ h₄ in
       let a = and-r (facesSound m) _ h₄ in
       let v₁ = and-r (unusedZero (m .vertices)) (vertexKeys && leadsOut m) v in
-      let e₁ = and-r (unusedZero (m .edges)) (edgeKeys && bothArcs m) e in
-      let a₁ = and-r (unusedZero (m .arcs)) ((endsDiffer m && (endsExist m && edgeJoins m)) && (nextLeaves m && (previousArrives m && faceExists m))) a in
-      let ends = and-l (endsDiffer m && (endsExist m && edgeJoins m)) (nextLeaves m && (previousArrives m && faceExists m)) a₁ in
-      let links = and-r (endsDiffer m && (endsExist m && edgeJoins m)) (nextLeaves m && (previousArrives m && faceExists m)) a₁ in
-      let ends₁ = and-r (endsDiffer m) (endsExist m && edgeJoins m) ends in
-      let links₁ = and-r (nextLeaves m) (previousArrives m && faceExists m) links in
+      let e₁ = and-r (unusedZero (m .edges)) (edgeKeys && (bothArcs m && edgeEnds m)) e in
+      let e₂ = and-r edgeKeys (bothArcs m && edgeEnds m) e₁ in
+      let a₁ = and-r (unusedZero (m .arcs)) (edgeJoins m && looseLinks m) a in
       record {
         within-limits = and-l (withinLimits m) _ h;
-        keys-below = and-i vertexKeys (edgeKeys && faceKeys) (and-l vertexKeys (leadsOut m) v₁) (and-i edgeKeys faceKeys (and-l edgeKeys (bothArcs m) e₁) (and-r (unusedZero (m .faces)) faceKeys f));
-        both-arcs = and-r edgeKeys (bothArcs m) e₁;
-        ends-differ = and-l (endsDiffer m) (endsExist m && edgeJoins m) ends;
-        ends-exist = and-l (endsExist m) (edgeJoins m) ends₁;
-        edge-joins = and-r (endsExist m) (edgeJoins m) ends₁;
+        keys-below = and-i vertexKeys (edgeKeys && faceKeys) (and-l vertexKeys (leadsOut m) v₁) (and-i edgeKeys faceKeys (and-l edgeKeys (bothArcs m && edgeEnds m) e₁) (and-r (unusedZero (m .faces)) faceKeys f));
+        both-arcs = and-l (bothArcs m) (edgeEnds m) e₂;
+        edge-ends = and-r (bothArcs m) (edgeEnds m) e₂;
+        edge-joins = and-l (edgeJoins m) (looseLinks m) a₁;
         leads-out = and-r vertexKeys (leadsOut m) v₁;
-        next-leaves = and-l (nextLeaves m) (previousArrives m && faceExists m) links;
-        previous-arrives = and-l (previousArrives m) (faceExists m) links₁;
-        face-exists = and-r (previousArrives m) (faceExists m) links₁;
+        loose-links = and-r (edgeJoins m) (looseLinks m) a₁;
         rest-zero =
             and-i (unusedZero (m .vertices)) _ (and-l (unusedZero (m .vertices)) (vertexKeys && leadsOut m) v)
-            (and-i (unusedZero (m .arcs)) _ (and-l (unusedZero (m .arcs)) _ a)
-            (and-i (unusedZero (m .edges)) _ (and-l (unusedZero (m .edges)) (edgeKeys && bothArcs m) e)
+            (and-i (unusedZero (m .arcs)) _ (and-l (unusedZero (m .arcs)) (edgeJoins m && looseLinks m) a)
+            (and-i (unusedZero (m .edges)) _ (and-l (unusedZero (m .edges)) (edgeKeys && (bothArcs m && edgeEnds m)) e)
             (and-i (unusedZero (m .faces)) (positionsZero m) (and-l (unusedZero (m .faces)) faceKeys f) (and-l (positionsZero m) (allFinite m) p))));
         all-finite = and-r (positionsZero m) (allFinite m) p;
       }
@@ -111,17 +104,15 @@ module _ (m : Mesh) where
       let z₁ = and-r (unusedZero (m .vertices)) _ z in
       let z₂ = and-r (unusedZero (m .arcs)) _ z₁ in
       let z₃ = and-r (unusedZero (m .edges)) _ z₂ in
-      let ends = and-i (endsDiffer m) _ (s .ends-differ) (and-i (endsExist m) (edgeJoins m) (s .ends-exist) (s .edge-joins)) in
-      let links = and-i (nextLeaves m) _ (s .next-leaves) (and-i (previousArrives m) (faceExists m) (s .previous-arrives) (s .face-exists)) in
       and-i (withinLimits m) _ (s .within-limits)
       (and-i (verticesSound m) _ (and-i (unusedZero (m .vertices)) _ (and-l (unusedZero (m .vertices)) _ z) (and-i vertexKeys (leadsOut m) (and-l vertexKeys (edgeKeys && faceKeys) k) (s .leads-out)))
       (and-i (positionsSound m) _ (and-i (positionsZero m) (allFinite m) (and-r (unusedZero (m .faces)) (positionsZero m) z₃) (s .all-finite))
-      (and-i (edgesSound m) _ (and-i (unusedZero (m .edges)) _ (and-l (unusedZero (m .edges)) _ z₂) (and-i edgeKeys (bothArcs m) (and-l edgeKeys faceKeys k₁) (s .both-arcs)))
+      (and-i (edgesSound m) _ (and-i (unusedZero (m .edges)) _ (and-l (unusedZero (m .edges)) _ z₂) (and-i edgeKeys (bothArcs m && edgeEnds m) (and-l edgeKeys faceKeys k₁) (and-i (bothArcs m) (edgeEnds m) (s .both-arcs) (sound-ends m s))))
       (and-i (facesSound m) (arcsSound m) (and-i (unusedZero (m .faces)) faceKeys (and-l (unusedZero (m .faces)) (positionsZero m) z₃) (and-r edgeKeys faceKeys k₁))
-      (and-i (unusedZero (m .arcs)) _ (and-l (unusedZero (m .arcs)) _ z₁) (and-i (endsDiffer m && (endsExist m && edgeJoins m)) _ ends links))))))
+      (and-i (unusedZero (m .arcs)) _ (and-l (unusedZero (m .arcs)) _ z₁) (and-i (edgeJoins m) (looseLinks m) (s .edge-joins) (sound-loose m s)))))))
 
-  pub rings-of : T (sound m) → T (ringsSound m)
-  rings-of t = parts m t .rings-sound
+  pub rings-of : T (sound m) → T (ringsFull m)
+  rings-of t = sound-full m (parts m t)
 
   pub keys-of : T (sound m) → T (keysDiffer m)
   keys-of t = parts m t .keys-differ
@@ -133,19 +124,22 @@ module _ (m : Mesh) where
     pub limits-kept : withinLimits m ≡ true
     limits-kept = T-true (withinLimits m) (told .within-limits)
 
-    pub faces-exist : faceExists m ≡ true
-    faces-exist = T-true (faceExists m) (told .face-exists)
+    ends-differ : T (endsDiffer m)
+    ends-differ = all-differ m (told .both-arcs) (told .edge-joins) (told .edge-ends)
+
+    ends-exist : T (endsExist m)
+    ends-exist = all-exist m (told .both-arcs) (told .edge-joins) (told .edge-ends)
 
     -- what is known of edges
     pub edges-told : Edges m
     edges-told =
-        record { both-arcs = facts.both-arcs m .0 (told .both-arcs); ends-differ = facts.ends-differ m .0 (told .ends-differ); edge-exists = λ x u. facts.edge-joins m .0 (told .edge-joins) x u .0; edge-names = λ x u. facts.edge-joins m .0 (told .edge-joins) x u .1 }
+        record { both-arcs = facts.both-arcs m .0 (told .both-arcs); ends-differ = facts.ends-differ m .0 ends-differ; edge-exists = λ x u. facts.edge-joins m .0 (told .edge-joins) x u .0; edge-names = λ x u. facts.edge-joins m .0 (told .edge-joins) x u .1 }
 
     pub ends-told : (x : ℕ) → IsArc m x → IsVertex m (source m x) × IsVertex m (dest m x)
-    ends-told = facts.ends-exist m .0 (told .ends-exist)
+    ends-told = facts.ends-exist m .0 ends-exist
 
     -- the rest holds: then the last clause decides
-    pub decides : ringsSound m ≡ true → keysDiffer m ≡ true → pairsDiffer m ≡ sound m
+    pub decides : ringsFull m ≡ true → keysDiffer m ≡ true → pairsDiffer m ≡ sound m
     decides g k = same-test (pairsDiffer m) (sound m) (λ t. whole m (all t)) (λ t. parts m t .pairs-differ)
       where
         all : T (pairsDiffer m) → Sound m
@@ -155,15 +149,15 @@ module _ (m : Mesh) where
               keys-differ = true-T k;
               keys-below = told .keys-below;
               both-arcs = told .both-arcs;
-              ends-differ = told .ends-differ;
-              ends-exist = told .ends-exist;
+              ends-differ = ends-differ;
+              ends-exist = ends-exist;
               pairs-differ = t;
               edge-joins = told .edge-joins;
               leads-out = told .leads-out;
-              next-leaves = told .next-leaves;
-              previous-arrives = told .previous-arrives;
-              face-exists = told .face-exists;
-              rings-sound = true-T g;
+              next-leaves = full-next m (true-T g) (told .loose-links);
+              previous-arrives = full-previous m (true-T g) (told .loose-links);
+              face-exists = full-faces m (true-T g);
+              rings-sound = full-rings m (true-T g);
               rest-zero = told .rest-zero;
               all-finite = told .all-finite;
             }

@@ -3,5 +3,8 @@ pub mod Named
 pub mod RingRows
 pub mod Counting
 pub mod RingWalk
+pub mod RingLinked
 pub mod RingSums
+pub mod RingFull
+pub mod RingTell
 pub mod Groups

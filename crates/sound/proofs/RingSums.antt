@@ -37,11 +37,11 @@ module _ (v : Table) (p : List (List Float)) (arcs e faces : Table) (k : List �
 
 -- ---- sums
 
-sum-more : (f : ℕ → ℕ) (i : ℕ) → sumBelow f (i + 1) ≡ sumBelow f i + f i
+pub sum-more : (f : ℕ → ℕ) (i : ℕ) → sumBelow f (i + 1) ≡ sumBelow f i + f i
 unfolding sumBelow
 sum-more f i = rw (add-one i)
 
-sum-upto : (f : ℕ → ℕ) (n k : ℕ) → k ≤ n → sumBelow f k ≤ sumBelow f n
+pub sum-upto : (f : ℕ → ℕ) (n k : ℕ) → k ≤ n → sumBelow f k ≤ sumBelow f n
 unfolding sumBelow
 sum-upto f zero k l = let e : k ≡ 0 = omega arith in rw e zero-le
 sum-upto f (suc n) k l = go (ℕ-discrete k (suc n)) (sum-upto f n k)
@@ -50,7 +50,7 @@ sum-upto f (suc n) k l = go (ℕ-discrete k (suc n)) (sum-upto f n k)
     go (yes e) ih = rw e (omega arith)
     go (no ne) ih = omega (arith, ih (omega arith))
 
-no-test : (b : Bool) → (T b → ⊥) → false ≡ b
+pub no-test : (b : Bool) → (T b → ⊥) → false ≡ b
 no-test true h = absurd (h tt)
 no-test false h = refl
 

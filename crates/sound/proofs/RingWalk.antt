@@ -81,12 +81,12 @@ module _ (m : Mesh) (f : ℕ) where
   abbrev o : ℕ
   o = faceArc m f
 
-  place-on : (k : ℕ) → k < length (ring m f) → getD (ring m f) k 0 ≡ on a o f k
+  pub place-on : (k : ℕ) → k < length (ring m f) → getD (ring m f) k 0 ≡ on a o f k
   unfolding ring
   place-on k l = walk-at (next m) o ringLimit o k l
 
   -- a whole ring is such a walk, and comes back
-  whole-walked : T (ringWhole m f) → Walked a o f (length (ring m f))
+  pub whole-walked : T (ringWhole m f) → Walked a o f (length (ring m f))
   unfolding ringArc ringHolds runsBack sourcesDiffer
   whole-walked h =
       let w = whole-parts m f h in
@@ -100,7 +100,7 @@ module _ (m : Mesh) (f : ℕ) where
   whole-back h = walk-back (next m) o ringLimit o (whole-parts m f h .comes-back)
 
   -- it is longer than a walk that is not back yet
-  longer : T (ringWhole m f) → (n : ℕ) → Away a o f n → n < length (ring m f)
+  pub longer : T (ringWhole m f) → (n : ℕ) → Away a o f n → n < length (ring m f)
   longer h n z = go (decLt n (length (ring m f)))
     where
       go : Dec (n < length (ring m f)) → n < length (ring m f)
@@ -127,7 +127,7 @@ module _ (m : Mesh) (f : ℕ) where
         walk-closes (next m) o (n + 1) ringLimit o (omega arith) (omega arith)
         (record { some-on = λ k l. in-table a (on a o f k) (and-l (there a (on a o f k)) _ (holds k l)) .0; back-at = e; none-before = λ k p q. z k p (omega arith) })
 
-    every-on : (p : ℕ → Bool) → ((k : ℕ) → k < n + 1 → T (p (on a o f k))) → T (every p (ring m f))
+    pub every-on : (p : ℕ → Bool) → ((k : ℕ) → k < n + 1 → T (p (on a o f k))) → T (every p (ring m f))
     every-on p h = true-T (every-passes p (ring m f) 0 (λ k l. T-true _ (subst (λ (x : ℕ). T (p x)) (sym (place-on k l)) (h k (rw (closes .1) at l)))))
 
     whole : 3 ≤ n + 1 → T (ringWhole m f)
@@ -139,7 +139,7 @@ module _ (m : Mesh) (f : ℕ) where
         (and-i (sourcesDiffer m f) _ (places-differ (source m) (ring m f) (λ j k p q r. w .apart j k (rw (closes .1) at p) (rw (closes .1) at q) (sym (ap (source m) (place-on j p)) ∙ r ∙ ap (source m) (place-on k q))))
         (and-i (ringHolds m f) (runsBack m f) (every-on (λ x. there a x && eqb (face m x) f) holds) (every-on (λ x. eqb (previous m (next m x)) x) back)))))
 
-    length-is : cond (leb 3 (n + 1)) (n + 1) 0 ≡ ringLength m f
+    pub length-is : cond (leb 3 (n + 1)) (n + 1) 0 ≡ ringLength m f
     unfolding ringLength
     length-is = go (decLt n 2)
       where

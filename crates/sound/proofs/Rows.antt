@@ -9,11 +9,11 @@ use lib.Dec.{eqb, ltb}
 use Rattle.rules.specs.Table.{Table, allBelow, every, there, used, unused}
 use Rattle.rules.specs.Mesh.{Mesh, keyOf, nextKey, vertexKind, edgeKind, faceKind}
 use Rattle.rules.specs.Point.{zeroPositionRow, finiteRow}
-use Rattle.rules.specs.Sound.{keysOf, hasBothArcs, bothArcs, endsDiffer, endsExist, edgeJoins, leadsOut, nextLeaves, previousArrives, faceExists, zeroRow, unusedZero, positionsZero, allFinite}
+use Rattle.rules.specs.Sound.{keysOf, hasBothArcs, bothArcs, edgeJoins, leadsOut, nextLeaves, previousArrives, zeroRow, unusedZero, positionsZero, allFinite}
 use Rattle.proved.proofs.Rows.{row-link, cell-row}
 use Rattle.names.proofs.Loops.{every-all}
-use Rattle.sound.specs.Tests.{blankRow, keyTest, bothRow, differRow, existRow, joinsRow, endsRow, leadsRow, nextRow, previousRow, faceRow, linksRow, vertexTest, positionTest, arcTest, edgeTest, faceTest}
-use Rattle.sound.specs.Parts.{below, verticesSound, positionsSound, arcsSound, edgesSound, facesSound}
+use Rattle.sound.specs.Tests.{blankRow, keyTest, bothRow, endsRow, joinsRow, leadsRow, nextRow, previousRow, vertexTest, positionTest, arcTest, edgeTest, faceTest}
+use Rattle.sound.specs.Parts.{below, verticesSound, positionsSound, edgeEnds, looseLinks, arcsSound, edgesSound, facesSound}
 
 -- ---- two tests of each row are one
 
@@ -35,13 +35,9 @@ module _ (m : Mesh) where
   unfolding bothArcs hasBothArcs bothRow
   both-arcs = simp cell-row
 
-  ends-differ : endsDiffer m ≡ allBelow (λ i. differRow (getD (m .arcs) i [])) (length (m .arcs))
-  unfolding endsDiffer differRow
-  ends-differ = simp cell-row
-
-  ends-exist : endsExist m ≡ allBelow (λ i. existRow (m .vertices) (getD (m .arcs) i [])) (length (m .arcs))
-  unfolding endsExist existRow
-  ends-exist = simp cell-row
+  edge-ends : edgeEnds m ≡ allBelow (λ i. endsRow (m .vertices) (m .arcs) (getD (m .edges) i [])) (length (m .edges))
+  unfolding edgeEnds endsRow
+  edge-ends = simp cell-row
 
   edge-joins : edgeJoins m ≡ allBelow (λ i. joinsRow (m .edges) (getD (m .arcs) i []) (i + 1)) (length (m .arcs))
   unfolding edgeJoins joinsRow
@@ -51,17 +47,13 @@ module _ (m : Mesh) where
   unfolding leadsOut leadsRow
   leads-out = simp cell-row
 
-  next-leaves : nextLeaves m ≡ allBelow (λ i. nextRow (m .arcs) (getD (m .arcs) i [])) (length (m .arcs))
+  pub next-leaves : nextLeaves m ≡ allBelow (λ i. nextRow (m .arcs) (getD (m .arcs) i [])) (length (m .arcs))
   unfolding nextLeaves nextRow
   next-leaves = simp cell-row
 
-  previous-arrives : previousArrives m ≡ allBelow (λ i. previousRow (m .arcs) (getD (m .arcs) i [])) (length (m .arcs))
+  pub previous-arrives : previousArrives m ≡ allBelow (λ i. previousRow (m .arcs) (getD (m .arcs) i [])) (length (m .arcs))
   unfolding previousArrives previousRow
   previous-arrives = simp cell-row
-
-  face-exists : faceExists m ≡ allBelow (λ i. faceRow (m .faces) (getD (m .arcs) i [])) (length (m .arcs))
-  unfolding faceExists faceRow
-  face-exists = simp cell-row
 
   positions-zero : positionsZero m ≡ allBelow (λ i. there (m .vertices) (i + 1) || zeroPositionRow (getD (m .positions) i [])) (length (m .positions))
   unfolding positionsZero
@@ -104,13 +96,13 @@ module _ (m : Mesh) where
   unfolding positionsSound positionTest
   positions-rows = rw (positions-zero m, all-finite m) (simp all-and)
 
-  pub arcs-rows : arcsSound m ≡ allBelow (λ i. arcTest (m .vertices) (m .arcs) (m .edges) (m .faces) (getD (m .arcs) i []) (i + 1)) (length (m .arcs))
-  unfolding arcsSound arcTest endsRow linksRow
-  arcs-rows = rw (unused-zero (m .arcs), ends-differ m, ends-exist m, edge-joins m, next-leaves m, previous-arrives m, face-exists m) (simp all-and)
+  pub arcs-rows : arcsSound m ≡ allBelow (λ i. arcTest (m .arcs) (m .edges) (getD (m .arcs) i []) (i + 1)) (length (m .arcs))
+  unfolding arcsSound arcTest looseLinks
+  arcs-rows = rw (unused-zero (m .arcs), edge-joins m) (simp all-and)
 
-  pub edges-rows : edgesSound m ≡ allBelow (λ i. edgeTest (m .arcs) (nextKey m edgeKind) (getD (m .edges) i []) (i + 1)) (length (m .edges))
+  pub edges-rows : edgesSound m ≡ allBelow (λ i. edgeTest (m .vertices) (m .arcs) (nextKey m edgeKind) (getD (m .edges) i []) (i + 1)) (length (m .edges))
   unfolding edgesSound edgeTest
-  edges-rows = rw (unused-zero (m .edges), keys-below (m .edges) (nextKey m edgeKind), both-arcs m) (simp all-and)
+  edges-rows = rw (unused-zero (m .edges), keys-below (m .edges) (nextKey m edgeKind), both-arcs m, edge-ends m) (simp all-and)
 
   pub faces-rows : facesSound m ≡ allBelow (λ i. faceTest (nextKey m faceKind) (getD (m .faces) i [])) (length (m .faces))
   unfolding facesSound faceTest

@@ -1,11 +1,14 @@
 -- The clauses of Sound by the table that they go over, as the code tests them: what one pass over each table tells.
-use mathlib.Core.Bool.{Bool, cond, _&&_}
-use lib.Dec.{ltb}
+use mathlib.Core.Bool.{Bool, not, cond, _&&_}
+use mathlib.Core.List.{[]}
+use lib.ListN.{length, getD}
+use lib.Dec.{eqb, ltb}
 use Prim.Native.Nat.{ℕ, _+_}
-use Rattle.rules.specs.Table.{Table, every, count}
-use Rattle.rules.specs.Mesh.{Mesh, nextKey, vertexKind, edgeKind, faceKind}
+use Rattle.rules.specs.Table.{Table, every, count, eachUsed, allBelow, there}
+use Rattle.rules.specs.Mesh.{Mesh, source, dest, edgeArc, nextKey, vertexKind, edgeKind, faceKind}
 use Rattle.proved.specs.Demand.{holdsSome}
-use Rattle.rules.specs.Sound.{withinLimits, keysOf, bothArcs, endsDiffer, endsExist, edgeJoins, leadsOut, nextLeaves, previousArrives, faceExists, unusedZero, positionsZero, allFinite}
+use Rattle.sound.specs.Tests.{looseRow}
+use Rattle.rules.specs.Sound.{withinLimits, keysOf, bothArcs, edgeJoins, leadsOut, unusedZero, positionsZero, allFinite}
 
 -- the keys of a table lie below a counter
 abbrev pub below : Table → ℕ → Bool
@@ -17,16 +20,27 @@ verticesSound m = unusedZero (m .vertices) && (below (m .vertices) (nextKey m ve
 unfoldable pub positionsSound : Mesh → Bool
 positionsSound m = positionsZero m && allFinite m
 
+-- the ends of the arc that each edge names differ, and exist: then so do those of every arc
+unfoldable pub edgeEnds : Mesh → Bool
+edgeEnds m =
+    eachUsed
+    (λ e.
+    not (eqb (source m (edgeArc m e)) (dest m (edgeArc m e)))
+    && (there (m .vertices) (source m (edgeArc m e)) && there (m .vertices) (dest m (edgeArc m e))))
+    (m .edges)
+
 unfoldable pub edgesSound : Mesh → Bool
-edgesSound m = unusedZero (m .edges) && (below (m .edges) (nextKey m edgeKind) && bothArcs m)
+edgesSound m = unusedZero (m .edges) && (below (m .edges) (nextKey m edgeKind) && (bothArcs m && edgeEnds m))
 
 unfoldable pub facesSound : Mesh → Bool
 facesSound m = unusedZero (m .faces) && below (m .faces) (nextKey m faceKind)
 
+-- next and previous of the arcs without a face
+unfoldable pub looseLinks : Mesh → Bool
+looseLinks m = allBelow (λ i. looseRow (m .arcs) (getD (m .arcs) i [])) (length (m .arcs))
+
 unfoldable pub arcsSound : Mesh → Bool
-arcsSound m =
-    unusedZero (m .arcs)
-    && ((endsDiffer m && (endsExist m && edgeJoins m)) && (nextLeaves m && (previousArrives m && faceExists m)))
+arcsSound m = unusedZero (m .arcs) && (edgeJoins m && looseLinks m)
 
 -- sizes, and all of them
 unfoldable pub rowsSound : Mesh → Bool

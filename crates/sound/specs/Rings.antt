@@ -1,11 +1,13 @@
 -- A ring as the code tests it: all that is asked of one ring but that no arc off it holds the face, which is counted over all rings.
 use Prim.Native.Nat.{ℕ}
 use mathlib.Core.Bool.{Bool, _&&_, cond}
-use lib.ListN.{length}
+use mathlib.Core.List.{List}
+use lib.ListN.{length, getD}
 use lib.Dec.{eqb}
-use Rattle.rules.specs.Table.{Table, cell, there}
-use Rattle.rules.specs.Mesh.{Mesh}
+use Rattle.rules.specs.Table.{Table, cell, there, used, every, eachUsed}
+use Rattle.rules.specs.Mesh.{Mesh, source, dest, next}
 use Rattle.rules.specs.Link.{ring}
+use Rattle.proved.specs.Demand.{overFaces, allHolders}
 use Rattle.rules.specs.Sound.{namesHolder, comesBack, threeToLimit, sourcesDiffer, ringHolds, runsBack}
 
 -- an arc on it holds the face, and previous of next is the arc itself
@@ -19,3 +21,21 @@ ringWhole m f =
 -- its length, or 0 where it fails
 unfoldable pub ringLength : Mesh → ℕ → ℕ
 ringLength m f = cond (ringWhole m f) (length (ring m f)) 0
+
+-- ---- a ring whose arcs are linked too: what the pass over all rings tests
+
+-- each arc on it ends where its next leaves
+unfoldable pub ringLinked : Mesh → ℕ → Bool
+ringLinked m f = every (λ x. eqb (source m (next m x)) (dest m x)) (ring m f)
+
+-- an arc's row on the ring of f, after the arc `before`, which ends at `end`
+unfoldable pub ringRow : List ℕ → ℕ → ℕ → ℕ → Bool
+ringRow r f before end = used r && (eqb (getD r 4 0) f && (eqb (getD r 3 0) before && eqb (getD r 0 0) end))
+
+unfoldable pub linkedLength : Mesh → ℕ → ℕ
+linkedLength m f = cond (ringWhole m f && ringLinked m f) (length (ring m f)) 0
+
+-- all rings are so, and together have as many arcs as hold a face
+unfoldable pub ringsFull : Mesh → Bool
+ringsFull m =
+    eachUsed (λ f. ringWhole m f && ringLinked m f) (m .faces) && eqb (overFaces m (λ f. length (ring m f))) (allHolders m)

@@ -31,18 +31,16 @@ bothRow arcs r e =
     && (there arcs y
     && (eqb (cell arcs x 5) e && (eqb (cell arcs y 5) e && (eqb (cell arcs x 0) (cell arcs y 1) && eqb (cell arcs x 1) (cell arcs y 0))))))
 
-unfoldable pub differRow : List ℕ → Bool
-differRow r = not (used r) || not (eqb (getD r 0 0) (getD r 1 0))
-
-unfoldable pub existRow : Table → List ℕ → Bool
-existRow vertices r = not (used r) || (there vertices (getD r 0 0) && there vertices (getD r 1 0))
+-- the ends of the arc that an edge names differ, and exist
+unfoldable pub endsRow : Table → Table → List ℕ → Bool
+endsRow vertices arcs r =
+    let a = cell arcs (getD r 1 0) 0 in
+    let b = cell arcs (getD r 1 0) 1 in
+    not (used r) || (not (eqb a b) && (there vertices a && there vertices b))
 
 unfoldable pub joinsRow : Table → List ℕ → ℕ → Bool
 joinsRow edges r x =
     not (used r) || (there edges (getD r 5 0) && (eqb (cell edges (getD r 5 0) 1) x || eqb (cell edges (getD r 5 0) 2) x))
-
-unfoldable pub endsRow : Table → Table → List ℕ → ℕ → Bool
-endsRow vertices edges r x = differRow r && (existRow vertices r && joinsRow edges r x)
 
 -- ---- links
 
@@ -55,11 +53,9 @@ nextRow arcs r = not (used r) || unlessNone (getD r 2 0) (there arcs (getD r 2 0
 unfoldable pub previousRow : Table → List ℕ → Bool
 previousRow arcs r = not (used r) || unlessNone (getD r 3 0) (there arcs (getD r 3 0) && eqb (cell arcs (getD r 3 0) 1) (getD r 0 0))
 
-unfoldable pub faceRow : Table → List ℕ → Bool
-faceRow faces r = not (used r) || unlessNone (getD r 4 0) (there faces (getD r 4 0))
-
-unfoldable pub linksRow : Table → Table → List ℕ → Bool
-linksRow arcs faces r = nextRow arcs r && (previousRow arcs r && faceRow faces r)
+-- both, of an arc without a face: what holds a face is on a ring, and tested there
+unfoldable pub looseRow : Table → List ℕ → Bool
+looseRow arcs r = not (eqb (getD r 4 0) 0) || (nextRow arcs r && previousRow arcs r)
 
 -- ---- a row of each table
 
@@ -69,11 +65,11 @@ vertexTest arcs counter r v = blankRow r && (keyTest counter (getD r 0 0) && lea
 unfoldable pub positionTest : Table → List Float → ℕ → Bool
 positionTest vertices r v = (there vertices v || zeroPositionRow r) && finiteRow r
 
-unfoldable pub arcTest : Table → Table → Table → Table → List ℕ → ℕ → Bool
-arcTest vertices arcs edges faces r x = blankRow r && (endsRow vertices edges r x && linksRow arcs faces r)
+unfoldable pub arcTest : Table → Table → List ℕ → ℕ → Bool
+arcTest arcs edges r x = blankRow r && (joinsRow edges r x && looseRow arcs r)
 
-unfoldable pub edgeTest : Table → ℕ → List ℕ → ℕ → Bool
-edgeTest arcs counter r e = blankRow r && (keyTest counter (getD r 0 0) && bothRow arcs r e)
+unfoldable pub edgeTest : Table → Table → ℕ → List ℕ → ℕ → Bool
+edgeTest vertices arcs counter r e = blankRow r && (keyTest counter (getD r 0 0) && (bothRow arcs r e && endsRow vertices arcs r))
 
 unfoldable pub faceTest : ℕ → List ℕ → Bool
 faceTest counter r = blankRow r && keyTest counter (getD r 0 0)

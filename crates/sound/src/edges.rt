@@ -16,7 +16,7 @@ ghost use lib.Dec.{eqb};
 ghost use Rattle.rules.specs.Table.{Table, cell};
 ghost use Rattle.rules.specs.Mesh.{mesh};
 ghost use Rattle.rules.specs.Sound.{pairsDiffer};
-ghost use Rattle.sound.specs.Tests.{bothRow, differRow, existRow, joinsRow, endsRow};
+ghost use Rattle.sound.specs.Tests.{bothRow, endsRow, joinsRow};
 ghost use Rattle.sound.specs.Names.{edgeName};
 ghost use Rattle.sound.specs.Parts.{rowsSound};
 
@@ -56,31 +56,26 @@ pub fn both_row(arcs: &[ArcRow], row: EdgeRow, e: usize) -> bool
     swapped(arcs, x, y)
 }
 
-// Its ends differ.
-fn differ_row(row: ArcRow) -> bool
-    ensures { λ r. ⌜ r ≡ differRow row ⌝ }
+// Its ends differ, and exist: those of the arc that it names, and so those of its other arc.
+pub fn ends_row(vertices: &[VertexRow], arcs: &[ArcRow], row: EdgeRow) -> bool
+    ensures { λ r. ⌜ r ≡ endsRow (now (vertices .entry)) (now (arcs .entry)) row ⌝ }
 {
     if row[0] == 0 {
         return true;
     }
-    row[0] != row[1]
-}
-
-// And exist.
-fn exist_row(vertices: &[VertexRow], row: ArcRow) -> bool
-    ensures { λ r. ⌜ r ≡ existRow (now (vertices .entry)) row ⌝ }
-{
-    if row[0] == 0 {
-        return true;
-    }
-    if rows::cell2(vertices, row[0], 0) == 0 {
+    let a = rows::cell6(arcs, row[1], 0);
+    let b = rows::cell6(arcs, row[1], 1);
+    if a == b {
         return false;
     }
-    rows::cell2(vertices, row[1], 0) != 0
+    if rows::cell2(vertices, a, 0) == 0 {
+        return false;
+    }
+    rows::cell2(vertices, b, 0) != 0
 }
 
 // An arc's edge joins its ends: the arc is one of the two that its edge names.
-fn joins_row(edges: &[EdgeRow], row: ArcRow, x: usize) -> bool
+pub fn joins_row(edges: &[EdgeRow], row: ArcRow, x: usize) -> bool
     ensures { λ r. ⌜ r ≡ joinsRow (now (edges .entry)) row x ⌝ }
 {
     if row[0] == 0 {
@@ -94,19 +89,6 @@ fn joins_row(edges: &[EdgeRow], row: ArcRow, x: usize) -> bool
         return true;
     }
     rows::wide(rows::cell3(edges, e, 2)) == x
-}
-
-// What document 01 asks of an arc's ends and of its edge.
-pub fn ends_row(vertices: &[VertexRow], edges: &[EdgeRow], row: ArcRow, x: usize) -> bool
-    ensures { λ r. ⌜ r ≡ endsRow (now (vertices .entry)) (now (edges .entry)) row x ⌝ }
-{
-    if !differ_row(row) {
-        return false;
-    }
-    if !exist_row(vertices, row) {
-        return false;
-    }
-    joins_row(edges, row, x)
 }
 
 // ---- no two edges join the same pair

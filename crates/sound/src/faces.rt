@@ -1,6 +1,7 @@
 // The ring of each face. It carries document 01's "a face's record names an arc that holds it; next from there returns after 3 to 64 arcs
 // with distinct sources, which are all the arcs that hold that face, and previous runs them backwards".
-// That no arc off its ring holds a face is one sum: the rings together have as many arcs as hold a face.
+// That no arc off its ring holds a face, and none a face that is not there, is one sum: the rings together have as many arcs as hold a face.
+// What document 01 asks of next and previous of an arc with a face is told by its ring too.
 
 use crate::links;
 use rules::ArcRow;
@@ -8,7 +9,7 @@ use rules::FaceRow;
 use rules::RING;
 use tables::rows;
 ghost use mathlib.Core.Path.{_≡_};
-ghost use mathlib.Core.Bool.{true, not, cond};
+ghost use mathlib.Core.Bool.{not, _&&_, cond};
 ghost use mathlib.Core.List.{List};
 ghost use Prim.Native.Nat.{ℕ, _≤_};
 ghost use lib.ListN.{length, getD};
@@ -16,9 +17,8 @@ ghost use lib.Ieee.{Float};
 ghost use lib.Dec.{eqb, leb};
 ghost use Rattle.rules.specs.Table.{Table, cell, count, allBelow};
 ghost use Rattle.rules.specs.Mesh.{Mesh, mesh, faceArc};
-ghost use Rattle.rules.specs.Sound.{faceExists, ringsSound};
 ghost use Rattle.proved.specs.Demand.{holdsSome};
-ghost use Rattle.sound.specs.Rings.{ringArc, ringLength};
+ghost use Rattle.sound.specs.Rings.{ringArc, ringLength, ringRow, linkedLength, ringsFull};
 
 // ---- one ring, walked once
 
@@ -71,7 +71,7 @@ fn known_places(sources: [u32; RING])
 
 // How many arcs the ring of a face has, where all that is asked of one ring holds; else 0. The walk begins at the arc that the face's
 // record names, and has 64 arcs at most. What stood in the list of sources does not matter.
-fn ring_length(sources: &mut [u32; RING], arcs: &[ArcRow], first: u32, f: usize) -> usize
+pub fn ring_length(sources: &mut [u32; RING], arcs: &[ArcRow], first: u32, f: usize) -> usize
     ensures { λ r. ⌜ ((m : Mesh) → m .arcs ≡ now (arcs .entry) → faceArc m f ≡ first → r ≡ ringLength m f) ⌝ }
 {
     known_places(*sources);
@@ -95,19 +95,95 @@ fn ring_length(sources: &mut [u32; RING], arcs: &[ArcRow], first: u32, f: usize)
     0
 }
 
+// ---- one ring, its arcs linked: each leaves where the arc before ends
+
+// Whether the table has a row with the link.
+fn has_row(arcs: &[ArcRow], x: u32) -> bool
+    ensures { λ r. ⌜ r ≡ (leb 1 x && leb x (length (now (arcs .entry)))) ⌝ }
+{
+    if x == 0 {
+        return false;
+    }
+    rows::wide(x) <= arcs.len()
+}
+
+// An arc on the ring of f: it holds the face, and comes after the arc `before`, which ends at `end`.
+fn ring_row(row: ArcRow, f: usize, before: u32, end: u32) -> bool
+    ensures { λ r. ⌜ r ≡ ringRow row f before end ⌝ }
+{
+    if row[0] == 0 {
+        return false;
+    }
+    if rows::wide(row[4]) != f {
+        return false;
+    }
+    if row[3] != before {
+        return false;
+    }
+    row[0] == end
+}
+
+// The walk is back: its last arc is the one before the first, ends where the first leaves, and is at least the third.
+fn closed_length(n: usize, before: u32, back: u32, end: u32, start: u32) -> usize
+    ensures { λ r. ⌜ r ≡ cond (eqb before back && eqb end start) (cond (leb 3 n) n 0) 0 ⌝ }
+{
+    if before != back {
+        return 0;
+    }
+    if end != start {
+        return 0;
+    }
+    three_or_none(n)
+}
+
+// How many arcs the ring of a face has, where all that is asked of one ring holds and its arcs are linked; else 0. Each arc's row is
+// read once.
+fn linked_length(sources: &mut [u32; RING], arcs: &[ArcRow], first: u32, f: usize) -> usize
+    ensures { λ r. ⌜ ((m : Mesh) → m .arcs ≡ now (arcs .entry) → faceArc m f ≡ first → r ≡ linkedLength m f) ⌝ }
+{
+    known_places(*sources);
+    let back = rows::cell6(arcs, first, 3);
+    let start = rows::cell6(arcs, first, 0);
+    let mut n: usize = 0;
+    let mut x = first;
+    let mut before = back;
+    let mut end = start;
+    while n < RING {
+        if !has_row(arcs, x) {
+            return 0;
+        }
+        let row = arcs[rows::wide(x) - 1];
+        if !ring_row(row, f, before, end) {
+            return 0;
+        }
+        if !new_source(sources, n, row[0]) {
+            return 0;
+        }
+        sources[n] = row[0];
+        n += 1;
+        before = x;
+        end = row[1];
+        x = row[2];
+        if x == first {
+            return closed_length(n, before, back, end, start);
+        }
+    }
+    0
+}
+
 // ---- all rings
 
-// Every face's ring is sound, where the faces that arcs hold exist, and as many arcs hold one as the caller has counted.
+// Every face's ring is whole and linked, and together they have as many arcs as hold a face, which the caller has counted.
 pub fn rings_sound(arcs: &[ArcRow], faces: &[FaceRow], held: usize) -> bool
     requires { ⌜ held ≡ count holdsSome (now arcs) ⌝ }
-    ensures { λ r. ⌜ ((v : Table) (p : List (List Float)) (e : Table) (k : List ℕ) → faceExists (mesh v p (now (arcs .entry)) e (now (faces .entry)) k) ≡ true → r ≡ ringsSound (mesh v p (now (arcs .entry)) e (now (faces .entry)) k)) ⌝ }
+    ensures { λ r. ⌜ ((v : Table) (p : List (List Float)) (e : Table) (k : List ℕ) → r ≡ ringsFull (mesh v p (now (arcs .entry)) e (now (faces .entry)) k)) ⌝ }
 {
     let mut sources = [0u32; RING];
     let mut left = held;
     let mut i = 0;
     while i < faces.len() {
         if faces[i][0] != 0 {
-            let n = ring_length(&mut sources, arcs, faces[i][1], i + 1);
+            let n = linked_length(&mut sources, arcs, faces[i][1], i + 1);
             if n == 0 {
                 return false;
             }

@@ -1,15 +1,14 @@
 // Links of one record to another. It carries document 01's "a leading arc, unless none, exists and leaves its vertex; next of (a,b), unless
-// none, exists and leaves b, previous, unless none, exists and arrives at a; an arc's face, unless none, exists".
+// none, exists and leaves b, previous, unless none, exists and arrives at a".
 
 use rules::ArcRow;
-use rules::FaceRow;
 use rules::VertexRow;
 use tables::rows;
 ghost use mathlib.Core.Path.{_≡_};
 ghost use mathlib.Core.Bool.{_&&_};
 ghost use lib.Dec.{eqb};
 ghost use Rattle.rules.specs.Table.{cell, there};
-ghost use Rattle.sound.specs.Tests.{leadsRow, nextRow, previousRow, faceRow, linksRow};
+ghost use Rattle.sound.specs.Tests.{leadsRow, nextRow, previousRow, looseRow};
 
 // Whether an arc exists and has the value in the cell.
 pub fn arc_has(arcs: &[ArcRow], x: u32, c: usize, value: usize) -> bool
@@ -62,28 +61,15 @@ fn previous_row(arcs: &[ArcRow], row: ArcRow) -> bool
     arc_has(arcs, row[3], 1, rows::wide(row[0]))
 }
 
-// An arc's face, unless none, exists.
-fn face_row(faces: &[FaceRow], row: ArcRow) -> bool
-    ensures { λ r. ⌜ r ≡ faceRow (now (faces .entry)) row ⌝ }
+// Both, of an arc without a face. Those of an arc with a face are tested on the face's ring.
+pub fn loose_row(arcs: &[ArcRow], row: ArcRow) -> bool
+    ensures { λ r. ⌜ r ≡ looseRow (now (arcs .entry)) row ⌝ }
 {
-    if row[0] == 0 {
+    if row[4] != 0 {
         return true;
     }
-    if row[4] == 0 {
-        return true;
-    }
-    rows::cell3(faces, row[4], 0) != 0
-}
-
-// What document 01 asks of an arc's links.
-pub fn links_row(arcs: &[ArcRow], faces: &[FaceRow], row: ArcRow) -> bool
-    ensures { λ r. ⌜ r ≡ linksRow (now (arcs .entry)) (now (faces .entry)) row ⌝ }
-{
     if !next_row(arcs, row) {
         return false;
     }
-    if !previous_row(arcs, row) {
-        return false;
-    }
-    face_row(faces, row)
+    previous_row(arcs, row)
 }

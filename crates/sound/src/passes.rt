@@ -34,27 +34,20 @@ fn vertex_row(arcs: &[ArcRow], counter: u32, row: VertexRow, v: usize) -> bool
     links::leads_row(arcs, row, v)
 }
 
-fn arc_row(
-    vertices: &[VertexRow],
-    arcs: &[ArcRow],
-    edges: &[EdgeRow],
-    faces: &[FaceRow],
-    row: ArcRow,
-    x: usize,
-) -> bool
-    ensures { λ r. ⌜ r ≡ arcTest (now (vertices .entry)) (now (arcs .entry)) (now (edges .entry)) (now (faces .entry)) row x ⌝ }
+fn arc_row(arcs: &[ArcRow], edges: &[EdgeRow], row: ArcRow, x: usize) -> bool
+    ensures { λ r. ⌜ r ≡ arcTest (now (arcs .entry)) (now (edges .entry)) row x ⌝ }
 {
     if !blanks::blank6(row) {
         return false;
     }
-    if !edges::ends_row(vertices, edges, row, x) {
+    if !edges::joins_row(edges, row, x) {
         return false;
     }
-    links::links_row(arcs, faces, row)
+    links::loose_row(arcs, row)
 }
 
-fn edge_row(arcs: &[ArcRow], counter: u32, row: EdgeRow, e: usize) -> bool
-    ensures { λ r. ⌜ r ≡ edgeTest (now (arcs .entry)) counter row e ⌝ }
+fn edge_row(vertices: &[VertexRow], arcs: &[ArcRow], counter: u32, row: EdgeRow, e: usize) -> bool
+    ensures { λ r. ⌜ r ≡ edgeTest (now (vertices .entry)) (now (arcs .entry)) counter row e ⌝ }
 {
     if !blanks::blank3(row) {
         return false;
@@ -62,7 +55,10 @@ fn edge_row(arcs: &[ArcRow], counter: u32, row: EdgeRow, e: usize) -> bool
     if !keys::key_below(row[0], counter) {
         return false;
     }
-    edges::both_row(arcs, row, e)
+    if !edges::both_row(arcs, row, e) {
+        return false;
+    }
+    edges::ends_row(vertices, arcs, row)
 }
 
 fn face_row(counter: u32, row: FaceRow) -> bool
@@ -113,18 +109,13 @@ fn holds_some(row: ArcRow) -> bool
 }
 
 // How many arcs hold a face, plus one, where every row passes; else 0.
-pub fn arcs_held(
-    vertices: &[VertexRow],
-    arcs: &[ArcRow],
-    edges: &[EdgeRow],
-    faces: &[FaceRow],
-) -> usize
-    ensures { λ r. ⌜ ((p : List (List Float)) (k : List ℕ) → r ≡ heldIf (arcsSound (mesh (now (vertices .entry)) p (now (arcs .entry)) (now (edges .entry)) (now (faces .entry)) k)) (now (arcs .entry))) ⌝ }
+pub fn arcs_held(arcs: &[ArcRow], edges: &[EdgeRow]) -> usize
+    ensures { λ r. ⌜ ((v : Table) (p : List (List Float)) (f : Table) (k : List ℕ) → r ≡ heldIf (arcsSound (mesh v p (now (arcs .entry)) (now (edges .entry)) f k)) (now (arcs .entry))) ⌝ }
 {
     let mut held: usize = 0;
     let mut i = 0;
     while i < arcs.len() {
-        if !arc_row(vertices, arcs, edges, faces, arcs[i], i + 1) {
+        if !arc_row(arcs, edges, arcs[i], i + 1) {
             return 0;
         }
         if holds_some(arcs[i]) {
@@ -135,12 +126,17 @@ pub fn arcs_held(
     held + 1
 }
 
-pub fn edges_sound(arcs: &[ArcRow], edges: &[EdgeRow], counters: &[u32; 3]) -> bool
-    ensures { λ r. ⌜ ((v : Table) (p : List (List Float)) (f : Table) → r ≡ edgesSound (mesh v p (now (arcs .entry)) (now (edges .entry)) f (now (counters .entry)))) ⌝ }
+pub fn edges_sound(
+    vertices: &[VertexRow],
+    arcs: &[ArcRow],
+    edges: &[EdgeRow],
+    counters: &[u32; 3],
+) -> bool
+    ensures { λ r. ⌜ ((p : List (List Float)) (f : Table) → r ≡ edgesSound (mesh (now (vertices .entry)) p (now (arcs .entry)) (now (edges .entry)) f (now (counters .entry)))) ⌝ }
 {
     let mut i = 0;
     while i < edges.len() {
-        if !edge_row(arcs, counters[1], edges[i], i + 1) {
+        if !edge_row(vertices, arcs, counters[1], edges[i], i + 1) {
             return false;
         }
         i += 1;

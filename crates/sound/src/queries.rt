@@ -49,13 +49,13 @@ fn rows_held(
     if !passes::positions_sound(vertices, positions) {
         return 0;
     }
-    if !passes::edges_sound(arcs, edges, counters) {
+    if !passes::edges_sound(vertices, arcs, edges, counters) {
         return 0;
     }
     if !passes::faces_sound(faces, counters) {
         return 0;
     }
-    passes::arcs_held(vertices, arcs, edges, faces)
+    passes::arcs_held(arcs, edges)
 }
 
 // Whether the tables are sound: sizes and rows first, on which the rest stands.

@@ -3,8 +3,9 @@ use native.Mathlib.Omega.{arith}
 use mathlib.Core.Path.{refl, sym, _∙_}
 use mathlib.Core.Logic.{⊎-elim}
 use lib.ListN.{length}
-use Rattle.proved.proofs.Rows.{true-T, cell-row}
-use Rattle.sound.proofs.RingSums.{bare, bare-exists, bare-rings, Going, going-start, going-unused, going-used, going-end, length-fails, sum-fails}
+use Rattle.proved.proofs.Rows.{cell-row}
+use Rattle.sound.proofs.RingSums.{bare}
+use Rattle.sound.proofs.RingFull.{bare-full, Going, going-start, going-unused, going-used, going-end, length-fails, sum-fails}
 use borrow.Author.Needs.{needs}
 use Rattle.sound.proofs.faces.rings_sound.Statement.{statement}
 use Rattle.sound.proofs.faces.rings_sound.Tie as tie
@@ -27,20 +28,20 @@ index-1-if1 c = search needs
 index-2-if1 : tie.Need-index-2-if1 Inv-loop μ-loop
 index-2-if1 c = search needs
 
-mul-ring-length : tie.Need-mul-ring-length Inv-loop μ-loop
-mul-ring-length c = search needs
+mul-linked-length : tie.Need-mul-linked-length Inv-loop μ-loop
+mul-linked-length c = search needs
 
-index-1-ring-length : tie.Need-index-1-ring-length Inv-loop μ-loop
-index-1-ring-length c = search needs
+index-1-linked-length : tie.Need-index-1-linked-length Inv-loop μ-loop
+index-1-linked-length c = search needs
 
-index-2-ring-length : tie.Need-index-2-ring-length Inv-loop μ-loop
-index-2-ring-length c = search needs
+index-2-linked-length : tie.Need-index-2-linked-length Inv-loop μ-loop
+index-2-linked-length c = search needs
 
-add-ring-length : tie.Need-add-ring-length Inv-loop μ-loop
-add-ring-length c = search needs
+add-linked-length : tie.Need-add-linked-length Inv-loop μ-loop
+add-linked-length c = search needs
 
-ring-length-requires : tie.Need-ring-length-requires Inv-loop μ-loop
-ring-length-requires c κs = search needs
+linked-length-requires : tie.Need-linked-length-requires Inv-loop μ-loop
+linked-length-requires c κs = search needs
 
 returns : tie.Need-returns Inv-loop μ-loop
 returns c =
@@ -48,7 +49,7 @@ returns c =
     let a = l .before .args in
     let m = bare (a .arcs .now) (a .faces .now) in
     let g = l .loop .inv .1 in
-    λ v p e k fe. length-fails m (l .loop .left) (l .loop .i) g (c .before .ring-length .result) (c .before .before .before .before .if1 .taken) (c .before .ring-length .ensures m refl (cell-row (a .faces .now) (l .loop .i) 1)) (c .if2 .taken) ∙ sym (bare-rings v p (a .arcs .now) e (a .faces .now) k)
+    λ v p e k. length-fails m (l .loop .left) (l .loop .i) g (c .before .linked-length .result) (c .before .before .before .before .if1 .taken) (c .before .linked-length .ensures m refl (cell-row (a .faces .now) (l .loop .i) 1)) (c .if2 .taken) ∙ (bare-full v p (a .arcs .now) e (a .faces .now) k)
 
 returns-2 : tie.Need-returns-2 Inv-loop μ-loop
 returns-2 c =
@@ -56,7 +57,7 @@ returns-2 c =
     let a = l .before .args in
     let m = bare (a .arcs .now) (a .faces .now) in
     let g = l .loop .inv .1 in
-    λ v p e k fe. sum-fails m (l .loop .left) (l .loop .i) g (c .before .before .ring-length .result) (c .before .before .before .before .before .if1 .taken) (c .before .before .ring-length .ensures m refl (cell-row (a .faces .now) (l .loop .i) 1)) (c .before .if2 .left) (true-T (sym (bare-exists v p (a .arcs .now) e (a .faces .now) k) ∙ fe)) (omega arith) (omega arith) ∙ sym (bare-rings v p (a .arcs .now) e (a .faces .now) k)
+    λ v p e k. sum-fails m (l .loop .left) (l .loop .i) g (c .before .before .linked-length .result) (c .before .before .before .before .before .if1 .taken) (c .before .before .linked-length .ensures m refl (cell-row (a .faces .now) (l .loop .i) 1)) (c .before .if2 .left) (omega arith) (omega arith) ∙ (bare-full v p (a .arcs .now) e (a .faces .now) k)
 
 add-i : tie.Need-add-i Inv-loop μ-loop
 add-i c = search needs
@@ -81,7 +82,7 @@ returns-3 c =
     let a = l .before .args in
     let m = bare (a .arcs .now) (a .faces .now) in
     let g = l .loop .inv .1 in
-    λ v p e k fe. going-end m (l .loop .left) (l .loop .i) g (true-T (sym (bare-exists v p (a .arcs .now) e (a .faces .now) k) ∙ fe)) (omega arith) (omega arith) ∙ sym (bare-rings v p (a .arcs .now) e (a .faces .now) k)
+    λ v p e k. going-end m (l .loop .left) (l .loop .i) g (omega arith) (omega arith) ∙ (bare-full v p (a .arcs .now) e (a .faces .now) k)
 
 pub rings-sound-spec : {M : Type 1} → statement M
 rings-sound-spec =
@@ -93,11 +94,11 @@ rings-sound-spec =
     mul-if1
     index-1-if1
     index-2-if1
-    mul-ring-length
-    index-1-ring-length
-    index-2-ring-length
-    add-ring-length
-    ring-length-requires
+    mul-linked-length
+    index-1-linked-length
+    index-2-linked-length
+    add-linked-length
+    linked-length-requires
     returns
     returns-2
     add-i

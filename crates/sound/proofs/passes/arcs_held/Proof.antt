@@ -16,13 +16,13 @@ use Rattle.sound.proofs.passes.arcs_held.Statement.{statement}
 use Rattle.sound.proofs.passes.arcs_held.Tie as tie
 
 abbrev Inv-loop : tie.InvT-loop
-Inv-loop vertices arcs edges faces held₀ i₀ held i = (i ≤ length arcs) × ((held ≤ i) × (Passed (λ j. arcTest vertices arcs edges faces (getD arcs j []) (j + 1)) i × Counted holdsSome arcs [] held i))
+Inv-loop arcs edges held₀ i₀ held i = (i ≤ length arcs) × ((held ≤ i) × (Passed (λ j. arcTest arcs edges (getD arcs j []) (j + 1)) i × Counted holdsSome arcs [] held i))
 
 abbrev μ-loop : tie.MeasureT-loop
-μ-loop vertices arcs edges faces held₀ i₀ held i = length arcs - i
+μ-loop arcs edges held₀ i₀ held i = length arcs - i
 
 loop-holds : tie.Need-loop-holds Inv-loop μ-loop
-loop-holds c = (search needs, (search needs, (none-yet (λ j. arcTest (c .args .vertices .now) (c .args .arcs .now) (c .args .edges .now) (c .args .faces .now) (getD (c .args .arcs .now) j []) (j + 1)), search needs)))
+loop-holds c = (search needs, (search needs, (none-yet (λ j. arcTest (c .args .arcs .now) (c .args .edges .now) (getD (c .args .arcs .now) j []) (j + 1)), search needs)))
 
 mul-arc-row : tie.Need-mul-arc-row Inv-loop μ-loop
 mul-arc-row c = search needs
@@ -40,7 +40,7 @@ returns : tie.Need-returns Inv-loop μ-loop
 returns c =
     let l = c .before .before .before .before in
     let a = l .before .args in
-    λ p k. rw (arcs-rows (mesh (a .vertices .now) p (a .arcs .now) (a .edges .now) (a .faces .now) k) ∙ sym (one-failed (λ j. arcTest (a .vertices .now) (a .arcs .now) (a .edges .now) (a .faces .now) (getD (a .arcs .now) j []) (j + 1)) (length (a .arcs .now)) (l .loop .i) (omega arith) (sym (c .before .arc-row .ensures) ∙ not-true _ (c .if1 .taken))))
+    λ v p f k. rw (arcs-rows (mesh v p (a .arcs .now) (a .edges .now) f k) ∙ sym (one-failed (λ j. arcTest (a .arcs .now) (a .edges .now) (getD (a .arcs .now) j []) (j + 1)) (length (a .arcs .now)) (l .loop .i) (omega arith) (sym (c .before .arc-row .ensures) ∙ not-true _ (c .if1 .taken))))
 
 mul-holds-some : tie.Need-mul-holds-some Inv-loop μ-loop
 mul-holds-some c = search needs
@@ -66,7 +66,7 @@ loop-again c =
     let a = l .before .args in
     let h = c .before .before .before .before .before .before .loop-test .taken in
     let e = c .before .holds-some .ensures in
-    let on = one-more (λ j. arcTest (a .vertices .now) (a .arcs .now) (a .edges .now) (a .faces .now) (getD (a .arcs .now) j []) (j + 1)) (l .loop .i) (l .loop .inv .1 .1 .0) (sym (c .before .before .before .before .arc-row .ensures) ∙ not-false _ (c .before .before .before .if1 .left)) in
+    let on = one-more (λ j. arcTest (a .arcs .now) (a .edges .now) (getD (a .arcs .now) j []) (j + 1)) (l .loop .i) (l .loop .inv .1 .1 .0) (sym (c .before .before .before .before .arc-row .ensures) ∙ not-false _ (c .before .before .before .if1 .left)) in
     ⊎-elim
     (λ w. (search needs, (search needs, (on, omega (arith, counted-one holdsSome (a .arcs .now) [] (l .loop .held) (l .loop .i) h (sym e ∙ w .0 .taken) (l .loop .inv .1 .1 .1))))))
     (λ w. (search needs, (search needs, (on, omega (arith, counted-none holdsSome (a .arcs .now) [] (l .loop .held) (l .loop .i) h (sym e ∙ w .0 .left) (l .loop .inv .1 .1 .1))))))
@@ -80,7 +80,7 @@ returns-2 c =
     let l = c .before in
     let a = l .before .args in
     let n = counted-all holdsSome (a .arcs .now) [] (l .loop .held) (l .loop .i) (c .loop-test .left) (l .loop .inv .1 .1 .1) in
-    λ p k. rw (arcs-rows (mesh (a .vertices .now) p (a .arcs .now) (a .edges .now) (a .faces .now) k) ∙ sym (all-passed (λ j. arcTest (a .vertices .now) (a .arcs .now) (a .edges .now) (a .faces .now) (getD (a .arcs .now) j []) (j + 1)) (length (a .arcs .now)) (l .loop .i) (omega arith) (omega arith) (l .loop .inv .1 .1 .0))) (omega arith)
+    λ v p f k. rw (arcs-rows (mesh v p (a .arcs .now) (a .edges .now) f k) ∙ sym (all-passed (λ j. arcTest (a .arcs .now) (a .edges .now) (getD (a .arcs .now) j []) (j + 1)) (length (a .arcs .now)) (l .loop .i) (omega arith) (omega arith) (l .loop .inv .1 .1 .0))) (omega arith)
 
 pub arcs-held-spec : {M : Type 1} → statement M
 arcs-held-spec =

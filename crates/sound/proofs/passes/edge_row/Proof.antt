@@ -27,7 +27,14 @@ both-row-requires c κs = search needs
 
 returns-3 : tie.Need-returns-3
 unfolding edgeTest
-returns-3 c = rw (sym (c .before .before .before .before .blank3 .ensures) ∙ not-false _ (c .before .before .before .if1 .left), sym (c .before .before .key-below .ensures) ∙ not-false _ (c .before .if2 .left)) (c .both-row .ensures)
+returns-3 c = rw (sym (c .before .before .before .before .before .blank3 .ensures) ∙ not-false _ (c .before .before .before .before .if1 .left), sym (c .before .before .before .key-below .ensures) ∙ not-false _ (c .before .before .if2 .left), sym (c .before .both-row .ensures) ∙ not-true _ (c .if3 .taken))
+
+ends-row-requires : tie.Need-ends-row-requires
+ends-row-requires c κs = search needs
+
+returns-4 : tie.Need-returns-4
+unfolding edgeTest
+returns-4 c = rw (sym (c .before .before .before .before .before .before .blank3 .ensures) ∙ not-false _ (c .before .before .before .before .before .if1 .left), sym (c .before .before .before .before .key-below .ensures) ∙ not-false _ (c .before .before .before .if2 .left), sym (c .before .before .both-row .ensures) ∙ not-false _ (c .before .if3 .left)) (c .ends-row .ensures)
 
 pub edge-row-spec : {M : Type 1} → statement M
 edge-row-spec =
@@ -39,4 +46,6 @@ edge-row-spec =
     key-below-requires
     returns-2
     both-row-requires
-    returns-3)
+    returns-3
+    ends-row-requires
+    returns-4)

@@ -2,9 +2,10 @@ use mathlib.Core.Path.{_≡_, sym, _∙_}
 use mathlib.Core.Bool.{true}
 use borrow.Author.Tests.{not-true, not-false}
 use Rattle.rules.specs.Mesh.{mesh}
-use Rattle.rules.specs.Sound.{ringsSound, keysDiffer}
+use Rattle.rules.specs.Sound.{keysDiffer}
 use Rattle.sound.specs.Parts.{rowsSound}
-use Rattle.sound.proofs.Groups.{lacks, held-none, held-some, rows-of, rings-of, keys-of, limits-kept, faces-exist, decides}
+use Rattle.sound.specs.Rings.{ringsFull}
+use Rattle.sound.proofs.Groups.{lacks, held-none, held-some, rows-of, rings-of, keys-of, limits-kept, decides}
 use borrow.Author.Needs.{needs}
 use Rattle.sound.proofs.queries.is_sound.Statement.{statement}
 use Rattle.sound.proofs.queries.is_sound.Tie as tie
@@ -31,8 +32,7 @@ returns-2 : tie.Need-returns-2
 returns-2 c =
     let x = c .before .before .before .before .args in
     let m = mesh (x .vertices .now) (x .positions .now) (x .arcs .now) (x .edges .now) (x .faces .now) (x .counters .now) in
-    let hr : rowsSound m ≡ true = held-some (rowsSound m) (x .arcs .now) (c .before .before .before .rows-held .result) (c .before .before .before .rows-held .ensures) (c .before .before .if1 .left) .0 in
-    lacks m (ringsSound m) (rings-of m) (sym (c .before .rings-sound .ensures (x .vertices .now) (x .positions .now) (x .edges .now) (x .counters .now) (faces-exist m hr)) ∙ not-true _ (c .if2 .taken))
+    lacks m (ringsFull m) (rings-of m) (sym (c .before .rings-sound .ensures (x .vertices .now) (x .positions .now) (x .edges .now) (x .counters .now)) ∙ not-true _ (c .if2 .taken))
 
 keys-differ-requires : tie.Need-keys-differ-requires
 keys-differ-requires c κs = search needs
@@ -52,7 +52,7 @@ returns-4 c =
     let x = c .before .before .before .before .before .before .before .before .before .args in
     let m = mesh (x .vertices .now) (x .positions .now) (x .arcs .now) (x .edges .now) (x .faces .now) (x .counters .now) in
     let hr : rowsSound m ≡ true = held-some (rowsSound m) (x .arcs .now) (c .before .before .before .before .before .before .before .before .rows-held .result) (c .before .before .before .before .before .before .before .before .rows-held .ensures) (c .before .before .before .before .before .before .before .if1 .left) .0 in
-    let hg : ringsSound m ≡ true = sym (c .before .before .before .before .before .before .rings-sound .ensures (x .vertices .now) (x .positions .now) (x .edges .now) (x .counters .now) (faces-exist m hr)) ∙ not-false _ (c .before .before .before .before .before .if2 .left) in
+    let hg : ringsFull m ≡ true = sym (c .before .before .before .before .before .before .rings-sound .ensures (x .vertices .now) (x .positions .now) (x .edges .now) (x .counters .now)) ∙ not-false _ (c .before .before .before .before .before .if2 .left) in
     let hk : keysDiffer m ≡ true = sym (c .before .before .before .keys-differ .ensures (x .positions .now) (x .arcs .now) (x .counters .now) (limits-kept m hr)) ∙ not-false _ (c .before .before .if3 .left) in
     c .pairs-differ .ensures (x .vertices .now) (x .positions .now) (x .faces .now) (x .counters .now) hr ∙ decides m hr hg hk
 

@@ -39,7 +39,7 @@ returns-4 : tie.Need-returns-4
 unfolding rowsSound
 returns-4 c =
     let x = c .before .before .before .before .before .before .before .before .args in
-    rw (sym (c .before .before .before .before .before .before .before .within-limits .ensures (x .counters .now)) ∙ not-false _ (c .before .before .before .before .before .before .if1 .left), sym (c .before .before .before .before .before .vertices-sound .ensures (x .positions .now) (x .edges .now) (x .faces .now)) ∙ not-false _ (c .before .before .before .before .if2 .left), sym (c .before .before .before .positions-sound .ensures (x .arcs .now) (x .edges .now) (x .faces .now) (x .counters .now)) ∙ not-false _ (c .before .before .if3 .left), sym (c .before .edges-sound .ensures (x .vertices .now) (x .positions .now) (x .faces .now)) ∙ not-true _ (c .if4 .taken))
+    rw (sym (c .before .before .before .before .before .before .before .within-limits .ensures (x .counters .now)) ∙ not-false _ (c .before .before .before .before .before .before .if1 .left), sym (c .before .before .before .before .before .vertices-sound .ensures (x .positions .now) (x .edges .now) (x .faces .now)) ∙ not-false _ (c .before .before .before .before .if2 .left), sym (c .before .before .before .positions-sound .ensures (x .arcs .now) (x .edges .now) (x .faces .now) (x .counters .now)) ∙ not-false _ (c .before .before .if3 .left), sym (c .before .edges-sound .ensures (x .positions .now) (x .faces .now)) ∙ not-true _ (c .if4 .taken))
 
 faces-sound-requires : tie.Need-faces-sound-requires
 faces-sound-requires c κs = search needs
@@ -48,7 +48,7 @@ returns-5 : tie.Need-returns-5
 unfolding rowsSound
 returns-5 c =
     let x = c .before .before .before .before .before .before .before .before .before .before .args in
-    rw (sym (c .before .before .before .before .before .before .before .before .before .within-limits .ensures (x .counters .now)) ∙ not-false _ (c .before .before .before .before .before .before .before .before .if1 .left), sym (c .before .before .before .before .before .before .before .vertices-sound .ensures (x .positions .now) (x .edges .now) (x .faces .now)) ∙ not-false _ (c .before .before .before .before .before .before .if2 .left), sym (c .before .before .before .before .before .positions-sound .ensures (x .arcs .now) (x .edges .now) (x .faces .now) (x .counters .now)) ∙ not-false _ (c .before .before .before .before .if3 .left), sym (c .before .before .before .edges-sound .ensures (x .vertices .now) (x .positions .now) (x .faces .now)) ∙ not-false _ (c .before .before .if4 .left), sym (c .before .faces-sound .ensures (x .vertices .now) (x .positions .now) (x .arcs .now) (x .edges .now)) ∙ not-true _ (c .if5 .taken))
+    rw (sym (c .before .before .before .before .before .before .before .before .before .within-limits .ensures (x .counters .now)) ∙ not-false _ (c .before .before .before .before .before .before .before .before .if1 .left), sym (c .before .before .before .before .before .before .before .vertices-sound .ensures (x .positions .now) (x .edges .now) (x .faces .now)) ∙ not-false _ (c .before .before .before .before .before .before .if2 .left), sym (c .before .before .before .before .before .positions-sound .ensures (x .arcs .now) (x .edges .now) (x .faces .now) (x .counters .now)) ∙ not-false _ (c .before .before .before .before .if3 .left), sym (c .before .before .before .edges-sound .ensures (x .positions .now) (x .faces .now)) ∙ not-false _ (c .before .before .if4 .left), sym (c .before .faces-sound .ensures (x .vertices .now) (x .positions .now) (x .arcs .now) (x .edges .now)) ∙ not-true _ (c .if5 .taken))
 
 arcs-held-requires : tie.Need-arcs-held-requires
 arcs-held-requires c κs = search needs
@@ -57,7 +57,7 @@ returns-6 : tie.Need-returns-6
 unfolding rowsSound
 returns-6 c =
     let x = c .before .before .before .before .before .before .before .before .before .before .before .args in
-    rw (sym (c .before .before .before .before .before .before .before .before .before .before .within-limits .ensures (x .counters .now)) ∙ not-false _ (c .before .before .before .before .before .before .before .before .before .if1 .left), sym (c .before .before .before .before .before .before .before .before .vertices-sound .ensures (x .positions .now) (x .edges .now) (x .faces .now)) ∙ not-false _ (c .before .before .before .before .before .before .before .if2 .left), sym (c .before .before .before .before .before .before .positions-sound .ensures (x .arcs .now) (x .edges .now) (x .faces .now) (x .counters .now)) ∙ not-false _ (c .before .before .before .before .before .if3 .left), sym (c .before .before .before .before .edges-sound .ensures (x .vertices .now) (x .positions .now) (x .faces .now)) ∙ not-false _ (c .before .before .before .if4 .left), sym (c .before .before .faces-sound .ensures (x .vertices .now) (x .positions .now) (x .arcs .now) (x .edges .now)) ∙ not-false _ (c .before .if5 .left)) (c .arcs-held .ensures (x .positions .now) (x .counters .now))
+    rw (sym (c .before .before .before .before .before .before .before .before .before .before .within-limits .ensures (x .counters .now)) ∙ not-false _ (c .before .before .before .before .before .before .before .before .before .if1 .left), sym (c .before .before .before .before .before .before .before .before .vertices-sound .ensures (x .positions .now) (x .edges .now) (x .faces .now)) ∙ not-false _ (c .before .before .before .before .before .before .before .if2 .left), sym (c .before .before .before .before .before .before .positions-sound .ensures (x .arcs .now) (x .edges .now) (x .faces .now) (x .counters .now)) ∙ not-false _ (c .before .before .before .before .before .if3 .left), sym (c .before .before .before .before .edges-sound .ensures (x .positions .now) (x .faces .now)) ∙ not-false _ (c .before .before .before .if4 .left), sym (c .before .before .faces-sound .ensures (x .vertices .now) (x .positions .now) (x .arcs .now) (x .edges .now)) ∙ not-false _ (c .before .if5 .left)) (c .arcs-held .ensures (x .vertices .now) (x .positions .now) (x .faces .now) (x .counters .now))
 
 pub rows-held-spec : {M : Type 1} → statement M
 rows-held-spec =
