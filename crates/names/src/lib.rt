@@ -37,7 +37,7 @@ pub fn pair_name(a: u32, b: u32) -> u32
 // ---- rising
 
 // Whether a name may follow the last that was not 0.
-fn follows(last: u32, name: u32) -> bool
+pub fn follows(last: u32, name: u32) -> bool
     ensures { λ r. ⌜ r ≡ (eqb name 0 || ltb last name) ⌝ }
 {
     if name == 0 {
@@ -47,7 +47,7 @@ fn follows(last: u32, name: u32) -> bool
 }
 
 // The name, or the one before where it is 0.
-fn or_last(name: u32, last: u32) -> u32
+pub fn or_last(name: u32, last: u32) -> u32
     ensures { λ r. ⌜ r ≡ orElse name last ⌝ }
 {
     if name == 0 {

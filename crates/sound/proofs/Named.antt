@@ -3,25 +3,26 @@ use Prim.Native.Nat.{ℕ, zero, suc, _+_, _-_, _≤_, _<_}
 use native.Mathlib.Nat.{le-of-suc-le-suc, not-suc-le-zero}
 use native.Mathlib.Omega.{arith}
 use mathlib.Core.Path.{_≡_, refl, ap, sym, subst, _∙_}
-use mathlib.Core.Bool.{Bool, true, false, not}
+use mathlib.Core.Bool.{Bool, true, false, not, _||_}
 use mathlib.Core.Logic.{_⊎_, inl, inr}
 use mathlib.Core.List.{List, [], _∷_, map}
 use lib.ListN.{length, getD, set, take, drop, length-map}
 use lib.Seq.{take-all, take-at, getD-take}
-use lib.Dec.{T, eqb→eq}
-use Rattle.rules.specs.Table.{Table, cell, there, unused, used, distinct}
+use lib.Dec.{T, eqb, ltb, eqb→eq}
+use Rattle.rules.specs.Table.{Table, cell, there, unused, used, distinct, allBelow, orElse}
 use Rattle.rules.specs.Mesh.{Mesh, source, dest, edgeArc}
 use Rattle.rules.specs.Sound.{keysOf, pairsDiffer}
 use Rattle.rules.proofs.Sums.{same-test}
 use Rattle.proved.specs.Facts.{IsArc, IsEdge, IsVertex, Joins}
-use Rattle.proved.proofs.Rows.{T-false, differ, cell-row, there-row, link-row, in-table}
+use Rattle.proved.proofs.Rows.{T-false, true-T, differ, cell-row, there-row, link-row, in-table}
 use Rattle.proved.proofs.Keys.{one-key, keys-from}
 use Rattle.proved.proofs.Clauses.{pairs-apart, pairs-from}
 use Rattle.proved.proofs.Edges.{Edges, EdgesDiffer, edges-differ, arcs-differ}
 use Rattle.tables.proofs.Lists.{upto, upto-more}
 use Rattle.names.specs.Names as names
 use Rattle.names.specs.Names.{pairName}
-use Rattle.names.proofs.Names.{differ-shows, differ-from}
+use Rattle.names.specs.Rising.{lastBefore, rises}
+use Rattle.names.proofs.Names.{differ-shows, differ-from, shown, rising-differ, last-more}
 use Rattle.names.proofs.Pairs.{pair-swap, pair-parts, pair-some, pair-ends}
 use Rattle.sound.specs.Names.{firsts, edgeName}
 
@@ -105,6 +106,25 @@ module _ (t : Table) (list : List ℕ) (named : take (length t) list ≡ firsts 
 
       back : T (distinct (keysOf t)) → T (names.differ list (length t))
       back h = differ-links (λ r. getD r 0 0) t list named none some (λ l k a b e. one-key t h l k a b (let p = cell-at l a in let q = cell-at k b in omega arith))
+
+-- keys that rise differ
+pub keys-rise : (t : Table) → allBelow (rises (firsts t)) (length t) ≡ true → true ≡ distinct (keysOf t)
+keys-rise t e =
+    let n = length-map t (λ r. getD r 0 0) in
+    shown (firsts t) (length t) (rising-differ (firsts t) (length t) (true-T e)) ∙ keys-differ t (firsts t) (take-all (length t) (firsts t) (omega arith))
+
+-- a row further, by its first cell
+module _ (t : Table) (i : ℕ) (l : i < length t) (last : ℕ) (e : last ≡ lastBefore (firsts t) i) where
+  pub rises-row : (eqb (getD (getD t i []) 0 0) 0 || ltb last (getD (getD t i []) 0 0)) ≡ rises (firsts t) i
+  unfolding rises
+  rises-row = rw (e, getD-map (λ r. getD r 0 0) t i l)
+
+  pub last-row : orElse (getD (getD t i []) 0 0) last ≡ lastBefore (firsts t) (i + 1)
+  last-row = rw (last-more (firsts t) i, e, getD-map (λ r. getD r 0 0) t i l)
+
+pub last-none : (t : Table) → 0 ≡ lastBefore (firsts t) 0
+unfolding lastBefore
+last-none t = refl
 
 -- ---- pairs
 
