@@ -81,7 +81,7 @@ module _ (m : Mesh) (f n : ℕ) (e : n ≡ ringLength m f) where
 -- ---- sums
 
 -- terms that are none above, and add up to as much, are the same
-sum-tight : (f g : ℕ → ℕ) (n : ℕ) → ((k : ℕ) → k < n → f k ≤ g k) → sumBelow f n ≡ sumBelow g n → (k : ℕ) → k < n → f k ≡ g k
+pub sum-tight : (f g : ℕ → ℕ) (n : ℕ) → ((k : ℕ) → k < n → f k ≤ g k) → sumBelow f n ≡ sumBelow g n → (k : ℕ) → k < n → f k ≡ g k
 unfolding sumBelow
 sum-tight f g zero h e k l = absurd (not-suc-le-zero l)
 sum-tight f g (suc n) h e k l = go (ℕ-discrete k n) (sum-tight f g n (λ j q. h j (omega arith)))

@@ -7,4 +7,5 @@ pub mod RingLinked
 pub mod RingSums
 pub mod RingFull
 pub mod RingTell
+pub mod Joining
 pub mod Groups

@@ -1,5 +1,5 @@
 -- What full rings tell of the arcs that hold a face, and a sound mesh's rings are full. And what an edge's named arc tells of every arc.
-use Prim.Native.Nat.{ℕ, zero, suc, _+_, _-_, _≤_, _<_}
+use Prim.Native.Nat.{ℕ, zero, suc, _+_, _-_, _*_, _≤_, _<_}
 use native.Mathlib.Omega.{arith}
 use native.Mathlib.Decide.{ℕ-discrete}
 use mathlib.Core.Path.{_≡_, refl, ap, sym, subst, _∙_}
@@ -9,7 +9,7 @@ use mathlib.Core.List.{[]}
 use lib.ListN.{length, getD}
 use lib.Dec.{T, eqb, eqb→eq}
 use lib.Ieee.Fits.{and-l, and-r, and-i}
-use Rattle.rules.specs.Table.{Table, cell, there, used, has, eachUsed}
+use Rattle.rules.specs.Table.{cell, there, used, has, eachUsed, count}
 use Rattle.rules.specs.Mesh.{Mesh, source, dest, next, previous, face, edge, edgeArc, edgeOther, faceArc}
 use Rattle.rules.specs.Link.{ring}
 use Rattle.rules.specs.Sound.{Sound, unlessNone, bothArcs, endsDiffer, endsExist, edgeJoins, nextLeaves, previousArrives, faceExists, holdersOnRing, ringSound, ringsSound}
@@ -20,12 +20,14 @@ use Rattle.proved.specs.Facts.{IsArc, IsEdge, IsFace, IsVertex, BothArcs, RingF
 use Rattle.proved.proofs.Rows.{T-true, true-T, same-T, differ-T, if-so, cell-row, there-row, link-row, in-table, used-at, used-all, all-from}
 use Rattle.proved.proofs.Around.{times-none, times-more, place-has}
 use Rattle.proved.proofs.Ring.{RingSound, ring-parts, ring-facts}
+use Rattle.proved.proofs.Totals.{arcs-at-most}
 use Rattle.proved.proofs.Clauses as facts
 use Rattle.sound.specs.Tests.{nextRow, previousRow, looseRow}
 use Rattle.sound.specs.Parts.{edgeEnds, looseLinks}
 use Rattle.sound.specs.Rings.{ringWhole, ringLinked, ringsFull}
 use Rattle.sound.proofs.Rows as rows
 use Rattle.sound.proofs.Counting.{sound-whole, whole-parts, on-ring, counts-add, counts-show, faces-from}
+use Rattle.sound.proofs.Joining.{at-least, joins-from}
 use Rattle.sound.proofs.RingFull.{all-full, sum-full, full-from}
 
 -- ---- one ring
@@ -204,7 +206,7 @@ module _ (m : Mesh) (s : Sound m) where
 
 -- ---- the ends of every arc, from those of the arcs that edges name
 
-module _ (m : Mesh) (both : T (bothArcs m)) (joins : T (edgeJoins m)) (ends : T (edgeEnds m)) where
+module _ (m : Mesh) (both : T (bothArcs m)) (ends : T (edgeEnds m)) where
   ends-at : (e : ℕ) → IsEdge m e → (source m (edgeArc m e) ≡ dest m (edgeArc m e) → ⊥) × (IsVertex m (source m (edgeArc m e)) × IsVertex m (dest m (edgeArc m e)))
   unfolding edgeEnds
   ends-at e u =
@@ -214,11 +216,18 @@ module _ (m : Mesh) (both : T (bothArcs m)) (joins : T (edgeJoins m)) (ends : T 
       let w = there (m .vertices) (dest m x) in
       facts.test-and d (v && w) (facts.test-differ (source m x) (dest m x)) (facts.test-and v w facts.itself facts.itself) .0 (used-at (λ e. not (eqb (source m (edgeArc m e)) (dest m (edgeArc m e))) && (there (m .vertices) (source m (edgeArc m e)) && there (m .vertices) (dest m (edgeArc m e)))) (m .edges) ends e u)
 
+  -- as many arcs as edges name
+  pub all-join : count used (m .arcs) ≡ 2 * count used (m .edges) → T (edgeJoins m)
+  all-join = joins-from m (facts.both-arcs m .0 both) (λ e u. ends-at e u .0)
+
+  pub named-arcs : 2 * count used (m .edges) ≤ count used (m .arcs)
+  named-arcs = at-least m (facts.both-arcs m .0 both) (λ e u. ends-at e u .0)
+
   abbrev Ends : ℕ → Type 0
   Ends x = (source m x ≡ dest m x → ⊥) × (IsVertex m (source m x) × IsVertex m (dest m x))
 
-  ends-of : (x : ℕ) → IsArc m x → Ends x
-  ends-of x u = go (j .1)
+  ends-of : T (edgeJoins m) → (x : ℕ) → IsArc m x → Ends x
+  ends-of joins x u = go (j .1)
     where
       j : IsEdge m (edge m x) × ((edgeArc m (edge m x) ≡ x) ⊎ (edgeOther m (edge m x) ≡ x))
       j = facts.edge-joins m .0 joins x u
@@ -236,8 +245,13 @@ module _ (m : Mesh) (both : T (bothArcs m)) (joins : T (edgeJoins m)) (ends : T 
           let r : dest m (edgeArc m (edge m x)) ≡ source m x = b .ends-where-leaves ∙ ap (source m) q in
           (λ e. n .0 (p ∙ sym e ∙ sym r), (subst (λ (w : ℕ). IsVertex m w) r (n .1 .1), subst (λ (w : ℕ). IsVertex m w) p (n .1 .0)))
 
-  pub all-differ : T (endsDiffer m)
-  all-differ = facts.ends-differ m .1 (λ x u. ends-of x u .0)
+  pub all-differ : T (edgeJoins m) → T (endsDiffer m)
+  all-differ joins = facts.ends-differ m .1 (λ x u. ends-of joins x u .0)
 
-  pub all-exist : T (endsExist m)
-  all-exist = facts.ends-exist m .1 (λ x u. ends-of x u .1)
+  pub all-exist : T (edgeJoins m) → T (endsExist m)
+  all-exist joins = facts.ends-exist m .1 (λ x u. ends-of joins x u .1)
+
+-- ---- a sound mesh has twice as many arcs as edges
+
+pub sound-twice : (m : Mesh) → Sound m → count used (m .arcs) ≡ 2 * count used (m .edges)
+sound-twice m s = omega (arith, arcs-at-most m s, named-arcs m (s .both-arcs) (sound-ends m s))

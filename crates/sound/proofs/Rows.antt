@@ -1,18 +1,21 @@
 -- Each clause of Sound as a test of each row of one table, and all clauses of a table as one test of each row: what the loop over that
 -- table tests.
-use Prim.Native.Nat.{ℕ, zero, suc, _+_}
-use mathlib.Core.Path.{_≡_, refl, ap, _∙_}
+use Prim.Native.Nat.{ℕ, zero, suc, _+_, _*_, _≤_, _<_}
+use native.Mathlib.Omega.{arith}
+use mathlib.Core.Path.{_≡_, refl, ap, sym, subst, _∙_}
 use mathlib.Core.Bool.{Bool, true, false, cond, _&&_, _||_}
 use mathlib.Core.List.{List, [], _∷_}
 use lib.ListN.{length, getD}
 use lib.Dec.{eqb, ltb}
-use Rattle.rules.specs.Table.{Table, allBelow, every, there, used, unused}
+use borrow.Author.Tests.{eq-eqb, ne-eqb}
+use Rattle.rules.specs.Table.{Table, allBelow, every, count, there, used, unused}
 use Rattle.rules.specs.Mesh.{Mesh, keyOf, nextKey, vertexKind, edgeKind, faceKind}
 use Rattle.rules.specs.Point.{zeroPositionRow, finiteRow}
-use Rattle.rules.specs.Sound.{keysOf, hasBothArcs, bothArcs, edgeJoins, leadsOut, nextLeaves, previousArrives, zeroRow, unusedZero, positionsZero, allFinite}
+use Rattle.rules.specs.Sound.{keysOf, hasBothArcs, bothArcs, leadsOut, nextLeaves, previousArrives, zeroRow, unusedZero, positionsZero, allFinite}
 use Rattle.proved.proofs.Rows.{row-link, cell-row}
-use Rattle.names.proofs.Loops.{every-all}
-use Rattle.sound.specs.Tests.{blankRow, keyTest, bothRow, endsRow, joinsRow, leadsRow, nextRow, previousRow, vertexTest, positionTest, arcTest, edgeTest, faceTest}
+use Rattle.names.proofs.Loops.{every-all, Passed, one-failed, all-passed}
+use Rattle.tables.proofs.Scans.{Counted, counted-one, counted-none}
+use Rattle.sound.specs.Tests.{blankRow, keyTest, bothRow, endsRow, leadsRow, nextRow, previousRow, looseRow, vertexTest, positionTest, arcTest, edgeTest, faceTest}
 use Rattle.sound.specs.Parts.{below, verticesSound, positionsSound, edgeEnds, looseLinks, arcsSound, edgesSound, facesSound}
 
 -- ---- two tests of each row are one
@@ -28,6 +31,10 @@ all-and p q (suc n) = go (allBelow p n) (allBelow q n) (p n) (q n) ∙ ap (λ (b
     go true false false d = refl
     go false b c d = refl
 
+and-assoc : (a b c : Bool) → (a && (b && c)) ≡ ((a && b) && c)
+and-assoc true b c = refl
+and-assoc false b c = refl
+
 -- ---- each clause
 
 module _ (m : Mesh) where
@@ -38,10 +45,6 @@ module _ (m : Mesh) where
   edge-ends : edgeEnds m ≡ allBelow (λ i. endsRow (m .vertices) (m .arcs) (getD (m .edges) i [])) (length (m .edges))
   unfolding edgeEnds endsRow
   edge-ends = simp cell-row
-
-  edge-joins : edgeJoins m ≡ allBelow (λ i. joinsRow (m .edges) (getD (m .arcs) i []) (i + 1)) (length (m .arcs))
-  unfolding edgeJoins joinsRow
-  edge-joins = simp cell-row
 
   leads-out : leadsOut m ≡ allBelow (λ i. leadsRow (m .arcs) (getD (m .vertices) i []) (i + 1)) (length (m .vertices))
   unfolding leadsOut leadsRow
@@ -96,9 +99,9 @@ module _ (m : Mesh) where
   unfolding positionsSound positionTest
   positions-rows = rw (positions-zero m, all-finite m) (simp all-and)
 
-  pub arcs-rows : arcsSound m ≡ allBelow (λ i. arcTest (m .arcs) (m .edges) (getD (m .arcs) i []) (i + 1)) (length (m .arcs))
+  pub arcs-rows : arcsSound m ≡ (allBelow (λ i. arcTest (m .arcs) (getD (m .arcs) i [])) (length (m .arcs)) && eqb (count used (m .arcs)) (2 * count used (m .edges)))
   unfolding arcsSound arcTest looseLinks
-  arcs-rows = rw (unused-zero (m .arcs), edge-joins m) (simp all-and)
+  arcs-rows = rw (unused-zero (m .arcs), ← all-and (λ i. blankRow (getD (m .arcs) i [])) (λ i. looseRow (m .arcs) (getD (m .arcs) i [])) (length (m .arcs))) (and-assoc (allBelow (λ i. blankRow (getD (m .arcs) i [])) (length (m .arcs))) (allBelow (λ i. looseRow (m .arcs) (getD (m .arcs) i [])) (length (m .arcs))) (eqb (count used (m .arcs)) (2 * count used (m .edges))))
 
   pub edges-rows : edgesSound m ≡ allBelow (λ i. edgeTest (m .vertices) (m .arcs) (nextKey m edgeKind) (getD (m .edges) i []) (i + 1)) (length (m .edges))
   unfolding edgesSound edgeTest
@@ -107,3 +110,38 @@ module _ (m : Mesh) where
   pub faces-rows : facesSound m ≡ allBelow (λ i. faceTest (nextKey m faceKind) (getD (m .faces) i [])) (length (m .faces))
   unfolding facesSound faceTest
   faces-rows = rw (unused-zero (m .faces), keys-below (m .faces) (nextKey m faceKind)) (simp all-and)
+
+-- ---- the arcs, and how many they are
+
+module _ (m : Mesh) where
+  abbrev passes : ℕ → Bool
+  passes i = arcTest (m .arcs) (getD (m .arcs) i [])
+
+  abbrev twoEach : Bool
+  twoEach = eqb (count used (m .arcs)) (2 * count used (m .edges))
+
+  pub arcs-fail : (i : ℕ) → i < length (m .arcs) → arcTest (m .arcs) (getD (m .arcs) i []) ≡ false → arcsSound m ≡ false
+  arcs-fail i l e = arcs-rows m ∙ ap (λ (b : Bool). b && twoEach) (sym (one-failed passes (length (m .arcs)) i l e))
+
+  module _ (there named : ℕ) (et : there ≡ count used (m .arcs)) (en : named ≡ 2 * count used (m .edges)) (i : ℕ) (a : length (m .arcs) ≤ i) (b : i ≤ length (m .arcs)) (h : Passed (λ i. arcTest (m .arcs) (getD (m .arcs) i [])) i) where
+    all-pass : arcsSound m ≡ twoEach
+    all-pass = arcs-rows m ∙ ap (λ (b : Bool). b && twoEach) (sym (all-passed passes (length (m .arcs)) i a b h))
+
+    pub arcs-other : (there ≡ named → ⊥) → arcsSound m ≡ false
+    arcs-other d = all-pass ∙ ne-eqb _ _ (λ q. d (et ∙ q ∙ sym en))
+
+    pub arcs-pass : there ≡ named → arcsSound m ≡ true
+    arcs-pass q = all-pass ∙ eq-eqb _ _ (sym et ∙ q ∙ en)
+
+-- a count, a row further
+module _ (p : List ℕ → Bool) (t : Table) (n i : ℕ) (l : i < length t) (h : Counted p t [] n i) (more : ℕ) where
+  pub counted-on : more ≡ cond (p (getD t i [])) (n + 1) n → Counted p t [] more (i + 1)
+  counted-on e = go (p (getD t i [])) refl e
+    where
+      go : (b : Bool) → p (getD t i []) ≡ b → more ≡ cond b (n + 1) n → Counted p t [] more (i + 1)
+      go true q r = subst (λ (z : ℕ). Counted p t [] z (i + 1)) (sym r) (counted-one p t [] n i l q h)
+      go false q r = subst (λ (z : ℕ). Counted p t [] z (i + 1)) (sym r) (counted-none p t [] n i l q h)
+
+pub one-up : (b : Bool) (n i more : ℕ) → n ≤ i → more ≡ cond b (n + 1) n → more ≤ i + 1
+one-up true n i more l e = omega arith
+one-up false n i more l e = omega arith

@@ -3,12 +3,12 @@ use mathlib.Core.Bool.{Bool, not, cond, _&&_}
 use mathlib.Core.List.{[]}
 use lib.ListN.{length, getD}
 use lib.Dec.{eqb, ltb}
-use Prim.Native.Nat.{ℕ, _+_}
-use Rattle.rules.specs.Table.{Table, every, count, eachUsed, allBelow, there}
+use Prim.Native.Nat.{ℕ, _+_, _*_}
+use Rattle.rules.specs.Table.{Table, every, count, eachUsed, allBelow, there, used}
 use Rattle.rules.specs.Mesh.{Mesh, source, dest, edgeArc, nextKey, vertexKind, edgeKind, faceKind}
 use Rattle.proved.specs.Demand.{holdsSome}
 use Rattle.sound.specs.Tests.{looseRow}
-use Rattle.rules.specs.Sound.{withinLimits, keysOf, bothArcs, edgeJoins, leadsOut, unusedZero, positionsZero, allFinite}
+use Rattle.rules.specs.Sound.{withinLimits, keysOf, bothArcs, leadsOut, unusedZero, positionsZero, allFinite}
 
 -- the keys of a table lie below a counter
 abbrev pub below : Table → ℕ → Bool
@@ -39,14 +39,18 @@ facesSound m = unusedZero (m .faces) && below (m .faces) (nextKey m faceKind)
 unfoldable pub looseLinks : Mesh → Bool
 looseLinks m = allBelow (λ i. looseRow (m .arcs) (getD (m .arcs) i [])) (length (m .arcs))
 
+-- and twice as many arcs as edges: then each arc is one of the two that its edge names
 unfoldable pub arcsSound : Mesh → Bool
-arcsSound m = unusedZero (m .arcs) && (edgeJoins m && looseLinks m)
+arcsSound m = unusedZero (m .arcs) && (looseLinks m && eqb (count used (m .arcs)) (2 * count used (m .edges)))
 
 -- sizes, and all of them
 unfoldable pub rowsSound : Mesh → Bool
 rowsSound m =
-    withinLimits m && (verticesSound m && (positionsSound m && (edgesSound m && (facesSound m && arcsSound m))))
+    withinLimits m && (verticesSound m && (positionsSound m && (facesSound m && (edgesSound m && arcsSound m))))
 
--- how many arcs hold a face, plus one, if so; else 0
+-- how many arcs hold a face, how many edges there are, plus one, if so; else 0
 abbrev pub heldIf : Bool → Table → ℕ
 heldIf b arcs = cond b (count holdsSome arcs + 1) 0
+
+abbrev pub usedIf : Bool → Table → ℕ
+usedIf b edges = cond b (count used edges + 1) 0

@@ -38,10 +38,6 @@ endsRow vertices arcs r =
     let b = cell arcs (getD r 1 0) 1 in
     not (used r) || (not (eqb a b) && (there vertices a && there vertices b))
 
-unfoldable pub joinsRow : Table → List ℕ → ℕ → Bool
-joinsRow edges r x =
-    not (used r) || (there edges (getD r 5 0) && (eqb (cell edges (getD r 5 0) 1) x || eqb (cell edges (getD r 5 0) 2) x))
-
 -- ---- links
 
 unfoldable pub leadsRow : Table → List ℕ → ℕ → Bool
@@ -65,8 +61,8 @@ vertexTest arcs counter r v = blankRow r && (keyTest counter (getD r 0 0) && lea
 unfoldable pub positionTest : Table → List Float → ℕ → Bool
 positionTest vertices r v = (there vertices v || zeroPositionRow r) && finiteRow r
 
-unfoldable pub arcTest : Table → Table → List ℕ → ℕ → Bool
-arcTest arcs edges r x = blankRow r && (joinsRow edges r x && looseRow arcs r)
+unfoldable pub arcTest : Table → List ℕ → Bool
+arcTest arcs r = blankRow r && looseRow arcs r
 
 unfoldable pub edgeTest : Table → Table → ℕ → List ℕ → ℕ → Bool
 edgeTest vertices arcs counter r e = blankRow r && (keyTest counter (getD r 0 0) && (bothRow arcs r e && endsRow vertices arcs r))

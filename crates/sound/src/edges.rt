@@ -1,24 +1,16 @@
-// Edges and their arcs. It carries document 01's "each edge has both arcs, its ends differ and exist, and no two edges join the same pair;
-// each arc's edge joins its ends". An edge's name is the pair of its ends, the lesser first.
+// Edges and their arcs. It carries document 01's "each edge has both arcs, its ends differ and exist, and no two edges join the same pair".
+// An edge's name is the pair of its ends, the lesser first. That each arc's edge joins its ends is counted (passes.rt).
 
-use names::ROWS;
 use rules::ArcRow;
 use rules::EdgeRow;
 use rules::VertexRow;
 use tables::rows;
 ghost use mathlib.Core.Path.{_≡_};
-ghost use mathlib.Core.Bool.{true, _&&_};
-ghost use mathlib.Core.List.{List, map};
-ghost use Prim.Native.Nat.{ℕ, _≤_};
-ghost use lib.ListN.{length, take};
-ghost use lib.Ieee.{Float};
+ghost use mathlib.Core.Bool.{_&&_};
 ghost use lib.Dec.{eqb};
-ghost use Rattle.rules.specs.Table.{Table, cell};
-ghost use Rattle.rules.specs.Mesh.{mesh};
-ghost use Rattle.rules.specs.Sound.{pairsDiffer};
-ghost use Rattle.sound.specs.Tests.{bothRow, endsRow, joinsRow};
+ghost use Rattle.rules.specs.Table.{cell};
+ghost use Rattle.sound.specs.Tests.{bothRow, endsRow};
 ghost use Rattle.sound.specs.Names.{edgeName};
-ghost use Rattle.sound.specs.Parts.{rowsSound};
 
 // ---- one row: an unused row passes
 
@@ -74,51 +66,14 @@ pub fn ends_row(vertices: &[VertexRow], arcs: &[ArcRow], row: EdgeRow) -> bool
     rows::cell2(vertices, b, 0) != 0
 }
 
-// An arc's edge joins its ends: the arc is one of the two that its edge names.
-pub fn joins_row(edges: &[EdgeRow], row: ArcRow, x: usize) -> bool
-    ensures { λ r. ⌜ r ≡ joinsRow (now (edges .entry)) row x ⌝ }
-{
-    if row[0] == 0 {
-        return true;
-    }
-    let e = row[5];
-    if rows::cell3(edges, e, 0) == 0 {
-        return false;
-    }
-    if rows::wide(rows::cell3(edges, e, 1)) == x {
-        return true;
-    }
-    rows::wide(rows::cell3(edges, e, 2)) == x
-}
-
-// ---- no two edges join the same pair
+// ---- no two edges join the same pair: no two have one name
 
 // An edge's name: the ends of the arc that it names.
-fn edge_name(arcs: &[ArcRow], row: EdgeRow) -> u32
+pub fn edge_name(arcs: &[ArcRow], row: EdgeRow) -> u32
     ensures { λ r. ⌜ r ≡ edgeName (now (arcs .entry)) row ⌝ }
 {
     if row[0] == 0 {
         return 0;
     }
     names::pair_name(rows::cell6(arcs, row[1], 0), rows::cell6(arcs, row[1], 1))
-}
-
-// The names of the edges, as many as the list has places.
-fn edge_names(names: &mut [u32], arcs: &[ArcRow], edges: &[EdgeRow])
-    ensures { λ _. ⌜ (length (now (edges .entry)) ≤ length (now (names .entry)) → take (length (now (edges .entry))) (now (names .exit)) ≡ map (edgeName (now (arcs .entry))) (now (edges .entry))) ⌝ }
-{
-    let n = names::lesser(names.len(), edges.len());
-    let mut i = 0;
-    while i < n {
-        names[i] = edge_name(arcs, edges[i]);
-        i += 1;
-    }
-}
-
-// No two edges join the same pair, where the rows of the tables are sound.
-pub fn pairs_differ(names: &mut [u32; ROWS], arcs: &[ArcRow], edges: &[EdgeRow]) -> bool
-    ensures { λ r. ⌜ ((v : Table) (p : List (List Float)) (f : Table) (k : List ℕ) → rowsSound (mesh v p (now (arcs .entry)) (now (edges .entry)) f k) ≡ true → r ≡ pairsDiffer (mesh v p (now (arcs .entry)) (now (edges .entry)) f k)) ⌝ }
-{
-    edge_names(names, arcs, edges);
-    names::names_differ(names, edges.len())
 }

@@ -1,5 +1,5 @@
 // One pass over each table: what document 01 asks of a row of it, all at once. A phrase is a function of keys.rt, edges.rt, links.rt or
-// blanks.rt, on one row.
+// blanks.rt, on one row. "Each arc's edge joins its ends" is a count: each edge names two arcs that hold it, and there are no others.
 
 use crate::blanks;
 use crate::edges;
@@ -11,14 +11,17 @@ use rules::FaceRow;
 use rules::PositionRow;
 use rules::VertexRow;
 ghost use mathlib.Core.Path.{_≡_};
-ghost use mathlib.Core.List.{List};
-ghost use Prim.Native.Nat.{ℕ, _+_};
+ghost use mathlib.Core.Bool.{cond};
+ghost use mathlib.Core.List.{List, map};
+ghost use Prim.Native.Nat.{ℕ, _+_, _*_, _≤_};
+ghost use lib.ListN.{length, take};
 ghost use lib.Ieee.{Float};
-ghost use Rattle.rules.specs.Table.{Table};
+ghost use Rattle.rules.specs.Table.{Table, count, used};
 ghost use Rattle.rules.specs.Mesh.{mesh};
 ghost use Rattle.proved.specs.Demand.{holdsSome};
 ghost use Rattle.sound.specs.Tests.{vertexTest, arcTest, edgeTest, faceTest};
-ghost use Rattle.sound.specs.Parts.{verticesSound, positionsSound, arcsSound, edgesSound, facesSound, heldIf};
+ghost use Rattle.sound.specs.Names.{edgeName};
+ghost use Rattle.sound.specs.Parts.{verticesSound, positionsSound, arcsSound, edgesSound, facesSound, heldIf, usedIf};
 
 // ---- one row
 
@@ -34,13 +37,10 @@ fn vertex_row(arcs: &[ArcRow], counter: u32, row: VertexRow, v: usize) -> bool
     links::leads_row(arcs, row, v)
 }
 
-fn arc_row(arcs: &[ArcRow], edges: &[EdgeRow], row: ArcRow, x: usize) -> bool
-    ensures { λ r. ⌜ r ≡ arcTest (now (arcs .entry)) (now (edges .entry)) row x ⌝ }
+fn arc_row(arcs: &[ArcRow], row: ArcRow) -> bool
+    ensures { λ r. ⌜ r ≡ arcTest (now (arcs .entry)) row ⌝ }
 {
     if !blanks::blank6(row) {
-        return false;
-    }
-    if !edges::joins_row(edges, row, x) {
         return false;
     }
     links::loose_row(arcs, row)
@@ -98,6 +98,17 @@ pub fn positions_sound(vertices: &[VertexRow], positions: &[PositionRow]) -> boo
     true
 }
 
+// One more, if so.
+fn plus(n: usize, so: bool) -> usize
+    requires { ⌜ n ≤ 16384 ⌝ }
+    ensures { λ r. ⌜ r ≡ cond so (n + 1) n ⌝ }
+{
+    if so {
+        return n + 1;
+    }
+    n
+}
+
 // Whether a row is an arc that holds a face.
 fn holds_some(row: ArcRow) -> bool
     ensures { λ r. ⌜ r ≡ holdsSome row ⌝ }
@@ -108,40 +119,50 @@ fn holds_some(row: ArcRow) -> bool
     row[4] != 0
 }
 
-// How many arcs hold a face, plus one, where every row passes; else 0.
-pub fn arcs_held(arcs: &[ArcRow], edges: &[EdgeRow]) -> usize
-    ensures { λ r. ⌜ ((v : Table) (p : List (List Float)) (f : Table) (k : List ℕ) → r ≡ heldIf (arcsSound (mesh v p (now (arcs .entry)) (now (edges .entry)) f k)) (now (arcs .entry))) ⌝ }
+// How many arcs hold a face, plus one, where every row passes and there are as many arcs as edges name; else 0.
+pub fn arcs_held(arcs: &[ArcRow], named: usize) -> usize
+    requires { ⌜ length (now arcs) ≤ 16384 ⌝ }
+    ensures { λ r. ⌜ ((v : Table) (p : List (List Float)) (e f : Table) (k : List ℕ) → named ≡ 2 * count used e → r ≡ heldIf (arcsSound (mesh v p (now (arcs .entry)) e f k)) (now (arcs .entry))) ⌝ }
 {
+    let mut there: usize = 0;
     let mut held: usize = 0;
     let mut i = 0;
     while i < arcs.len() {
-        if !arc_row(arcs, edges, arcs[i], i + 1) {
+        if !arc_row(arcs, arcs[i]) {
             return 0;
         }
-        if holds_some(arcs[i]) {
-            held += 1;
-        }
+        there = plus(there, arcs[i][0] != 0);
+        held = plus(held, holds_some(arcs[i]));
         i += 1;
+    }
+    if there != named {
+        return 0;
     }
     held + 1
 }
 
-pub fn edges_sound(
+// How many edges there are, plus one, where every row passes; else 0. Their names are written on the way.
+pub fn edges_named(
+    names: &mut [u32],
     vertices: &[VertexRow],
     arcs: &[ArcRow],
     edges: &[EdgeRow],
     counters: &[u32; 3],
-) -> bool
-    ensures { λ r. ⌜ ((p : List (List Float)) (f : Table) → r ≡ edgesSound (mesh (now (vertices .entry)) p (now (arcs .entry)) (now (edges .entry)) f (now (counters .entry)))) ⌝ }
+) -> usize
+    requires { ⌜ (length (now edges) ≤ 8192) × (length (now edges) ≤ length (now names)) ⌝ }
+    ensures { λ r. ⌜ ((p : List (List Float)) (f : Table) → r ≡ usedIf (edgesSound (mesh (now (vertices .entry)) p (now (arcs .entry)) (now (edges .entry)) f (now (counters .entry)))) (now (edges .entry))) × ((r ≡ 0 → ⊥) → take (length (now (edges .entry))) (now (names .exit)) ≡ map (edgeName (now (arcs .entry))) (now (edges .entry))) ⌝ }
 {
+    let mut there: usize = 0;
     let mut i = 0;
     while i < edges.len() {
         if !edge_row(vertices, arcs, counters[1], edges[i], i + 1) {
-            return false;
+            return 0;
         }
+        names[i] = edges::edge_name(arcs, edges[i]);
+        there = plus(there, edges[i][0] != 0);
         i += 1;
     }
-    true
+    there + 1
 }
 
 pub fn faces_sound(faces: &[FaceRow], counters: &[u32; 3]) -> bool

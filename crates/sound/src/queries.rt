@@ -1,7 +1,6 @@
 // All of "Sound means" in one answer, and the three queries: check_sound, check_finished, face_arity. They change nothing and need no room.
 // It carries document 01's answers 1 ("a table is unsound or over the limit"), 3 of the finished check and 4 of an unknown face.
 
-use crate::edges;
 use crate::faces;
 use crate::keys;
 use crate::passes;
@@ -18,19 +17,23 @@ use tables::sets;
 use walks::rings;
 ghost use mathlib.Core.Path.{_≡_};
 ghost use mathlib.Core.Bool.{not};
+ghost use mathlib.Core.List.{map};
 ghost use Prim.Native.Nat.{ℕ, _≤_};
-ghost use lib.ListN.{length};
+ghost use lib.ListN.{length, take};
 ghost use Rattle.rules.specs.Table.{every};
 ghost use Rattle.rules.specs.Mesh.{Mesh, mesh, faceArc};
 ghost use Rattle.rules.specs.Link as Link;
 ghost use Rattle.rules.specs.Sound.{sound};
 ghost use Rattle.rules.specs.Call.{checkSound, checkFinished, faceArity, leadless};
+ghost use Rattle.sound.specs.Names.{edgeName};
 ghost use Rattle.sound.specs.Parts.{rowsSound, heldIf};
 
 // ---- soundness
 
-// Sizes, and what one pass over each table tells: how many arcs hold a face, plus one, or 0 where some row fails.
+// Sizes, and what one pass over each table tells: how many arcs hold a face, plus one, or 0 where some row fails. The names of the edges
+// stand in the list then.
 fn rows_held(
+    names: &mut [u32; ROWS],
     vertices: &[VertexRow],
     positions: &[PositionRow],
     arcs: &[ArcRow],
@@ -38,7 +41,7 @@ fn rows_held(
     faces: &[FaceRow],
     counters: &[u32; 3],
 ) -> usize
-    ensures { λ r. ⌜ r ≡ heldIf (rowsSound (mesh (now (vertices .entry)) (now (positions .entry)) (now (arcs .entry)) (now (edges .entry)) (now (faces .entry)) (now (counters .entry)))) (now (arcs .entry)) ⌝ }
+    ensures { λ r. ⌜ (r ≡ heldIf (rowsSound (mesh (now (vertices .entry)) (now (positions .entry)) (now (arcs .entry)) (now (edges .entry)) (now (faces .entry)) (now (counters .entry)))) (now (arcs .entry))) × ((r ≡ 0 → ⊥) → take (length (now (edges .entry))) (now (names .exit)) ≡ map (edgeName (now (arcs .entry))) (now (edges .entry))) ⌝ }
 {
     if !sets::within_limits(vertices, positions, arcs, edges, faces) {
         return 0;
@@ -49,13 +52,14 @@ fn rows_held(
     if !passes::positions_sound(vertices, positions) {
         return 0;
     }
-    if !passes::edges_sound(vertices, arcs, edges, counters) {
-        return 0;
-    }
     if !passes::faces_sound(faces, counters) {
         return 0;
     }
-    passes::arcs_held(arcs, edges)
+    let there = passes::edges_named(names, vertices, arcs, edges, counters);
+    if there == 0 {
+        return 0;
+    }
+    passes::arcs_held(arcs, (there - 1) * 2)
 }
 
 // Whether the tables are sound: sizes and rows first, on which the rest stands.
@@ -69,18 +73,26 @@ pub fn is_sound(
 ) -> bool
     ensures { λ r. ⌜ r ≡ sound (mesh (now (vertices .entry)) (now (positions .entry)) (now (arcs .entry)) (now (edges .entry)) (now (faces .entry)) (now (counters .entry))) ⌝ }
 {
-    let held = rows_held(vertices, positions, arcs, edges, faces, counters);
+    let mut names = [0u32; ROWS];
+    let held = rows_held(
+        &mut names,
+        vertices,
+        positions,
+        arcs,
+        edges,
+        faces,
+        counters,
+    );
     if held == 0 {
         return false;
     }
     if !faces::rings_sound(arcs, faces, held - 1) {
         return false;
     }
-    let mut names = [0u32; ROWS];
-    if !keys::keys_differ(&mut names, vertices, edges, faces) {
+    if !names::names_differ(&names, edges.len()) {
         return false;
     }
-    edges::pairs_differ(&mut names, arcs, edges)
+    keys::keys_differ(&mut names, vertices, edges, faces)
 }
 
 // ---- the queries

@@ -12,21 +12,12 @@ returns : tie.Need-returns
 unfolding arcTest
 returns c = rw (sym (c .before .blank6 .ensures) ∙ not-true _ (c .if1 .taken))
 
-joins-row-requires : tie.Need-joins-row-requires
-joins-row-requires c κs = search needs
-
-returns-2 : tie.Need-returns-2
-unfolding arcTest
-returns-2 c = rw (sym (c .before .before .before .blank6 .ensures) ∙ not-false _ (c .before .before .if1 .left), sym (c .before .joins-row .ensures) ∙ not-true _ (c .if2 .taken))
-
 loose-row-requires : tie.Need-loose-row-requires
 loose-row-requires c κs = search needs
 
-returns-3 : tie.Need-returns-3
+returns-2 : tie.Need-returns-2
 unfolding arcTest
-returns-3 c = rw (sym (c .before .before .before .before .blank6 .ensures) ∙ not-false _ (c .before .before .before .if1 .left), sym (c .before .before .joins-row .ensures) ∙ not-false _ (c .before .if2 .left)) (c .loose-row .ensures)
+returns-2 c = rw (sym (c .before .before .blank6 .ensures) ∙ not-false _ (c .before .if1 .left)) (c .loose-row .ensures)
 
 pub arc-row-spec : {M : Type 1} → statement M
-arc-row-spec =
-    tie.close
-    (tie.spec blank6-requires returns joins-row-requires returns-2 loose-row-requires returns-3)
+arc-row-spec = tie.close (tie.spec blank6-requires returns loose-row-requires returns-2)

@@ -1,37 +1,34 @@
-use Prim.Native.Nat.{_+_, _-_, _≤_}
+use Prim.Native.Nat.{_-_, _≤_}
 use native.Mathlib.Omega.{arith}
-use mathlib.Core.Path.{sym, _∙_}
+use mathlib.Core.Path.{refl, sym, _∙_}
 use mathlib.Core.List.{[]}
-use mathlib.Core.Logic.{⊎-elim}
 use lib.ListN.{length, getD}
 use borrow.Author.Tests.{not-true, not-false}
+use Rattle.rules.specs.Table.{used}
 use Rattle.rules.specs.Mesh.{mesh}
 use Rattle.proved.specs.Demand.{holdsSome}
-use Rattle.tables.proofs.Scans.{Counted, counted-one, counted-none, counted-all}
-use Rattle.names.proofs.Loops.{Passed, none-yet, one-more, all-passed, one-failed}
-use Rattle.sound.proofs.Rows.{arcs-rows}
+use Rattle.tables.proofs.Scans.{Counted, counted-all}
+use Rattle.names.proofs.Loops.{Passed, none-yet, one-more}
+use Rattle.sound.proofs.Rows.{arcs-fail, arcs-other, arcs-pass, counted-on, one-up}
 use Rattle.sound.specs.Tests.{arcTest}
 use borrow.Author.Needs.{needs}
 use Rattle.sound.proofs.passes.arcs_held.Statement.{statement}
 use Rattle.sound.proofs.passes.arcs_held.Tie as tie
 
 abbrev Inv-loop : tie.InvT-loop
-Inv-loop arcs edges held₀ i₀ held i = (i ≤ length arcs) × ((held ≤ i) × (Passed (λ j. arcTest arcs edges (getD arcs j []) (j + 1)) i × Counted holdsSome arcs [] held i))
+Inv-loop arcs named there₀ held₀ i₀ there held i = (i ≤ length arcs) × ((there ≤ i) × ((held ≤ i) × (Passed (λ j. arcTest arcs (getD arcs j [])) i × (Counted used arcs [] there i × Counted holdsSome arcs [] held i))))
 
 abbrev μ-loop : tie.MeasureT-loop
-μ-loop arcs edges held₀ i₀ held i = length arcs - i
+μ-loop arcs named there₀ held₀ i₀ there held i = length arcs - i
 
 loop-holds : tie.Need-loop-holds Inv-loop μ-loop
-loop-holds c = (search needs, (search needs, (none-yet (λ j. arcTest (c .args .arcs .now) (c .args .edges .now) (getD (c .args .arcs .now) j []) (j + 1)), search needs)))
+loop-holds c = (search needs, (search needs, (search needs, (none-yet (λ j. arcTest (c .args .arcs .now) (getD (c .args .arcs .now) j [])), (search needs, search needs)))))
 
 mul-arc-row : tie.Need-mul-arc-row Inv-loop μ-loop
 mul-arc-row c = search needs
 
 shared-slice-copy-out-arc-row : tie.Need-shared-slice-copy-out-arc-row Inv-loop μ-loop
 shared-slice-copy-out-arc-row c = search needs
-
-add-arc-row : tie.Need-add-arc-row Inv-loop μ-loop
-add-arc-row c = search needs
 
 arc-row-requires : tie.Need-arc-row-requires Inv-loop μ-loop
 arc-row-requires c κs = search needs
@@ -40,7 +37,19 @@ returns : tie.Need-returns Inv-loop μ-loop
 returns c =
     let l = c .before .before .before .before in
     let a = l .before .args in
-    λ v p f k. rw (arcs-rows (mesh v p (a .arcs .now) (a .edges .now) f k) ∙ sym (one-failed (λ j. arcTest (a .arcs .now) (a .edges .now) (getD (a .arcs .now) j []) (j + 1)) (length (a .arcs .now)) (l .loop .i) (omega arith) (sym (c .before .arc-row .ensures) ∙ not-true _ (c .if1 .taken))))
+    λ v p e f k q. rw (arcs-fail (mesh v p (a .arcs .now) e f k) (l .loop .i) (omega arith) (sym (c .before .arc-row .ensures) ∙ not-true _ (c .if1 .taken)))
+
+mul-plus : tie.Need-mul-plus Inv-loop μ-loop
+mul-plus c = search needs
+
+index-1-plus : tie.Need-index-1-plus Inv-loop μ-loop
+index-1-plus c = search needs
+
+index-2-plus : tie.Need-index-2-plus Inv-loop μ-loop
+index-2-plus c = search needs
+
+plus-requires : tie.Need-plus-requires Inv-loop μ-loop
+plus-requires c κs = search needs
 
 mul-holds-some : tie.Need-mul-holds-some Inv-loop μ-loop
 mul-holds-some c = search needs
@@ -51,8 +60,8 @@ shared-slice-copy-out-holds-some c = search needs
 holds-some-requires : tie.Need-holds-some-requires Inv-loop μ-loop
 holds-some-requires c κs = search needs
 
-add-held : tie.Need-add-held Inv-loop μ-loop
-add-held c = search needs
+plus-requires-2 : tie.Need-plus-requires-2 Inv-loop μ-loop
+plus-requires-2 c κs = search needs
 
 add-i : tie.Need-add-i Inv-loop μ-loop
 add-i c = search needs
@@ -62,25 +71,41 @@ loop-less c = search needs
 
 loop-again : tie.Need-loop-again Inv-loop μ-loop
 loop-again c =
-    let l = c .before .before .before .before .before .before .before in
+    let l = c .before .before .before .before .before .before .before .before .before in
     let a = l .before .args in
-    let h = c .before .before .before .before .before .before .loop-test .taken in
-    let e = c .before .holds-some .ensures in
-    let on = one-more (λ j. arcTest (a .arcs .now) (a .edges .now) (getD (a .arcs .now) j []) (j + 1)) (l .loop .i) (l .loop .inv .1 .1 .0) (sym (c .before .before .before .before .arc-row .ensures) ∙ not-false _ (c .before .before .before .if1 .left)) in
-    ⊎-elim
-    (λ w. (search needs, (search needs, (on, omega (arith, counted-one holdsSome (a .arcs .now) [] (l .loop .held) (l .loop .i) h (sym e ∙ w .0 .taken) (l .loop .inv .1 .1 .1))))))
-    (λ w. (search needs, (search needs, (on, omega (arith, counted-none holdsSome (a .arcs .now) [] (l .loop .held) (l .loop .i) h (sym e ∙ w .0 .left) (l .loop .inv .1 .1 .1))))))
-    (c .if2 .came)
+    let h = c .before .before .before .before .before .before .before .before .loop-test .taken in
+    let i = l .loop .inv in (
+      search needs,
+      (
+        one-up (used (getD (a .arcs .now) (l .loop .i) [])) (l .loop .there) (l .loop .i) (c .before .before .before .plus .result) (i .1 .0) (c .before .before .before .plus .ensures),
+        (
+          one-up (c .before .holds-some .result) (l .loop .held) (l .loop .i) (c .plus2 .result) (i .1 .1 .0) (c .plus2 .ensures),
+          (
+            one-more (λ j. arcTest (a .arcs .now) (getD (a .arcs .now) j [])) (l .loop .i) (i .1 .1 .1 .0) (sym (c .before .before .before .before .before .before .arc-row .ensures) ∙ not-false _ (c .before .before .before .before .before .if1 .left)),
+            (
+              counted-on used (a .arcs .now) (l .loop .there) (l .loop .i) h (i .1 .1 .1 .1 .0) (c .before .before .before .plus .result) (c .before .before .before .plus .ensures),
+              counted-on holdsSome (a .arcs .now) (l .loop .held) (l .loop .i) h (i .1 .1 .1 .1 .1) (c .plus2 .result) (rw (← c .before .holds-some .ensures) (c .plus2 .ensures)),
+            ),
+          ),
+        ),
+      ),
+    )
+
+returns-2 : tie.Need-returns-2 Inv-loop μ-loop
+returns-2 c =
+    let l = c .before .before in
+    let a = l .before .args in
+    λ v p e f k q. rw (arcs-other (mesh v p (a .arcs .now) e f k) (l .loop .there) (a .named) (counted-all used (a .arcs .now) [] (l .loop .there) (l .loop .i) (c .before .loop-test .left) (l .loop .inv .1 .1 .1 .1 .0)) q (l .loop .i) (omega arith) (omega arith) (l .loop .inv .1 .1 .1 .0) (c .if2 .taken))
 
 add-result : tie.Need-add-result Inv-loop μ-loop
 add-result c = search needs
 
-returns-2 : tie.Need-returns-2 Inv-loop μ-loop
-returns-2 c =
-    let l = c .before in
+returns-3 : tie.Need-returns-3 Inv-loop μ-loop
+returns-3 c =
+    let l = c .before .before in
     let a = l .before .args in
-    let n = counted-all holdsSome (a .arcs .now) [] (l .loop .held) (l .loop .i) (c .loop-test .left) (l .loop .inv .1 .1 .1) in
-    λ v p f k. rw (arcs-rows (mesh v p (a .arcs .now) (a .edges .now) f k) ∙ sym (all-passed (λ j. arcTest (a .arcs .now) (a .edges .now) (getD (a .arcs .now) j []) (j + 1)) (length (a .arcs .now)) (l .loop .i) (omega arith) (omega arith) (l .loop .inv .1 .1 .0))) (omega arith)
+    let n = counted-all holdsSome (a .arcs .now) [] (l .loop .held) (l .loop .i) (c .before .loop-test .left) (l .loop .inv .1 .1 .1 .1 .1) in
+    λ v p e f k q. rw (arcs-pass (mesh v p (a .arcs .now) e f k) (l .loop .there) (a .named) (counted-all used (a .arcs .now) [] (l .loop .there) (l .loop .i) (c .before .loop-test .left) (l .loop .inv .1 .1 .1 .1 .0)) q (l .loop .i) (omega arith) (omega arith) (l .loop .inv .1 .1 .1 .0) (c .if2 .left)) (omega arith)
 
 pub arcs-held-spec : {M : Type 1} → statement M
 arcs-held-spec =
@@ -91,15 +116,19 @@ arcs-held-spec =
     loop-holds
     mul-arc-row
     shared-slice-copy-out-arc-row
-    add-arc-row
     arc-row-requires
     returns
+    mul-plus
+    index-1-plus
+    index-2-plus
+    plus-requires
     mul-holds-some
     shared-slice-copy-out-holds-some
     holds-some-requires
-    add-held
+    plus-requires-2
     add-i
     loop-less
     loop-again
+    returns-2
     add-result
-    returns-2)
+    returns-3)

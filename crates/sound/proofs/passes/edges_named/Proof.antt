@@ -1,0 +1,152 @@
+use Prim.Native.Nat.{_+_, _-_, _≤_}
+use native.Mathlib.Omega.{arith}
+use mathlib.Core.Path.{_≡_, refl, sym, _∙_}
+use mathlib.Core.List.{[], map}
+use lib.ListN.{length, getD, length-set}
+use borrow.Author.Tests.{not-true, not-false}
+use Rattle.rules.specs.Table.{used}
+use Rattle.rules.specs.Mesh.{mesh}
+use Rattle.tables.proofs.Lists.{upto}
+use Rattle.tables.proofs.Scans.{Counted, counted-all}
+use Rattle.names.proofs.Loops.{Passed, none-yet, one-more, all-passed, one-failed}
+use Rattle.sound.proofs.Rows.{edges-rows, counted-on, one-up}
+use Rattle.sound.proofs.Named.{name-more, name-all}
+use Rattle.sound.specs.Names.{edgeName}
+use Rattle.sound.specs.Tests.{edgeTest}
+use borrow.Author.Needs.{needs}
+use Rattle.sound.proofs.passes.edges_named.Statement.{statement}
+use Rattle.sound.proofs.passes.edges_named.Tie as tie
+
+abbrev Inv-loop : tie.InvT-loop
+Inv-loop names₀ vertices arcs edges counters there₀ i₀ names there i = (length names ≡ length names₀) × ((i ≤ length edges) × ((there ≤ i) × (Passed (λ j. edgeTest vertices arcs (getD counters 1 0) (getD edges j []) (j + 1)) i × (Counted used edges [] there i × (names ≡ upto (map (edgeName arcs) edges) i names₀)))))
+
+abbrev μ-loop : tie.MeasureT-loop
+μ-loop names₀ vertices arcs edges counters there₀ i₀ names there i = length edges - i
+
+loop-holds : tie.Need-loop-holds Inv-loop μ-loop
+loop-holds c = (search needs, (search needs, (search needs, (none-yet (λ j. edgeTest (c .before .args .vertices .now) (c .before .args .arcs .now) (getD (c .before .args .counters .now) 1 0) (getD (c .before .args .edges .now) j []) (j + 1)), (search needs, search needs)))))
+
+element-copy-out-edge-row : tie.Need-element-copy-out-edge-row Inv-loop μ-loop
+element-copy-out-edge-row c = search needs
+
+mul-edge-row : tie.Need-mul-edge-row Inv-loop μ-loop
+mul-edge-row c = search needs
+
+shared-slice-copy-out-edge-row : tie.Need-shared-slice-copy-out-edge-row Inv-loop μ-loop
+shared-slice-copy-out-edge-row c = search needs
+
+add-edge-row : tie.Need-add-edge-row Inv-loop μ-loop
+add-edge-row c = search needs
+
+edge-row-requires : tie.Need-edge-row-requires Inv-loop μ-loop
+edge-row-requires c κs = search needs
+
+same-length : tie.Need-same-length Inv-loop μ-loop
+same-length c = search needs
+
+returns : tie.Need-returns Inv-loop μ-loop
+returns c =
+    let l = c .before .before .before .before .before in
+    let a = l .before .before .args in
+    (λ p f. rw (edges-rows (mesh (a .vertices .now) p (a .arcs .now) (a .edges .now) f (a .counters .now)) ∙ sym (one-failed (λ j. edgeTest (a .vertices .now) (a .arcs .now) (getD (a .counters .now) 1 0) (getD (a .edges .now) j []) (j + 1)) (length (a .edges .now)) (l .loop .i) (omega arith) (sym (c .before .edge-row .ensures) ∙ not-true _ (c .if1 .taken)))), λ n. absurd (n refl))
+
+mul-edge-name : tie.Need-mul-edge-name Inv-loop μ-loop
+mul-edge-name c = search needs
+
+shared-slice-copy-out-edge-name : tie.Need-shared-slice-copy-out-edge-name Inv-loop μ-loop
+shared-slice-copy-out-edge-name c = search needs
+
+edge-name-requires : tie.Need-edge-name-requires Inv-loop μ-loop
+edge-name-requires c κs = search needs
+
+mul-names : tie.Need-mul-names Inv-loop μ-loop
+mul-names c = search needs
+
+slice-write-names : tie.Need-slice-write-names Inv-loop μ-loop
+slice-write-names c = search needs
+
+mul-plus : tie.Need-mul-plus Inv-loop μ-loop
+mul-plus c = search needs
+
+index-1-plus : tie.Need-index-1-plus Inv-loop μ-loop
+index-1-plus c = search needs
+
+index-2-plus : tie.Need-index-2-plus Inv-loop μ-loop
+index-2-plus c = search needs
+
+plus-requires : tie.Need-plus-requires Inv-loop μ-loop
+plus-requires c κs = search needs
+
+add-i : tie.Need-add-i Inv-loop μ-loop
+add-i c = search needs
+
+loop-less : tie.Need-loop-less Inv-loop μ-loop
+loop-less c = search needs
+
+loop-again : tie.Need-loop-again Inv-loop μ-loop
+loop-again c =
+    let l = c .before .before .before .before .before .before .before .before .before in
+    let a = l .before .before .args in
+    let h = c .before .before .before .before .before .before .before .before .loop-test .taken in
+    let r = l .before .before .pre in
+    let i = l .loop .inv in (
+      simp length-set (i .0),
+      (
+        search needs,
+        (
+          one-up (used (getD (a .edges .now) (l .loop .i) [])) (l .loop .there) (l .loop .i) (c .plus .result) (i .1 .1 .0) (c .plus .ensures),
+          (
+            one-more (λ j. edgeTest (a .vertices .now) (a .arcs .now) (getD (a .counters .now) 1 0) (getD (a .edges .now) j []) (j + 1)) (l .loop .i) (i .1 .1 .1 .0) (sym (c .before .before .before .before .before .edge-row .ensures) ∙ not-false _ (c .before .before .before .before .if1 .left)),
+            (
+              counted-on used (a .edges .now) (l .loop .there) (l .loop .i) h (i .1 .1 .1 .1 .0) (c .plus .result) (c .plus .ensures),
+              rw (i .1 .1 .1 .1 .1, c .before .before .edge-name .ensures) (name-more (edgeName (a .arcs .now)) (a .edges .now) (a .names .now) (l .loop .i) h (omega (arith, h, r .1))),
+            ),
+          ),
+        ),
+      ),
+    )
+
+add-result : tie.Need-add-result Inv-loop μ-loop
+add-result c = search needs
+
+same-length-2 : tie.Need-same-length-2 Inv-loop μ-loop
+same-length-2 c = search needs
+
+returns-2 : tie.Need-returns-2 Inv-loop μ-loop
+returns-2 c =
+    let l = c .before in
+    let a = l .before .before .args in
+    let n = counted-all used (a .edges .now) [] (l .loop .there) (l .loop .i) (c .loop-test .left) (l .loop .inv .1 .1 .1 .1 .0) in (
+      λ p f. rw (edges-rows (mesh (a .vertices .now) p (a .arcs .now) (a .edges .now) f (a .counters .now)) ∙ sym (all-passed (λ j. edgeTest (a .vertices .now) (a .arcs .now) (getD (a .counters .now) 1 0) (getD (a .edges .now) j []) (j + 1)) (length (a .edges .now)) (l .loop .i) (omega arith) (omega arith) (l .loop .inv .1 .1 .1 .0))) (omega arith),
+      λ s. rw (l .loop .inv .1 .1 .1 .1 .1) (name-all (edgeName (a .arcs .now)) (a .edges .now) (a .names .now) (l .loop .i) (omega arith)),
+    )
+
+pub edges-named-spec : {M : Type 1} → statement M
+edges-named-spec =
+    tie.close
+    (tie.spec
+    Inv-loop
+    μ-loop
+    loop-holds
+    element-copy-out-edge-row
+    mul-edge-row
+    shared-slice-copy-out-edge-row
+    add-edge-row
+    edge-row-requires
+    same-length
+    returns
+    mul-edge-name
+    shared-slice-copy-out-edge-name
+    edge-name-requires
+    mul-names
+    slice-write-names
+    mul-plus
+    index-1-plus
+    index-2-plus
+    plus-requires
+    add-i
+    loop-less
+    loop-again
+    add-result
+    same-length-2
+    returns-2)
