@@ -3,16 +3,18 @@
 use Prim.Native.Nat.{ℕ, zero, suc, _+_, _*_, _≤_, _<_}
 use native.Mathlib.Omega.{arith}
 use mathlib.Core.Path.{_≡_, refl, ap, sym, subst, _∙_}
-use mathlib.Core.Bool.{Bool, true, false, cond, _&&_, _||_}
+use mathlib.Core.Bool.{Bool, true, false, not, cond, _&&_, _||_}
 use mathlib.Core.List.{List, [], _∷_}
 use lib.ListN.{length, getD}
-use lib.Dec.{eqb, ltb}
+use lib.Dec.{T, eqb, ltb}
+use lib.Ieee.Fits.{and-l, and-r}
 use borrow.Author.Tests.{eq-eqb, ne-eqb}
 use Rattle.rules.specs.Table.{Table, allBelow, every, count, there, used, unused}
 use Rattle.rules.specs.Mesh.{Mesh, keyOf, nextKey, vertexKind, edgeKind, faceKind}
 use Rattle.rules.specs.Point.{zeroPositionRow, finiteRow}
 use Rattle.rules.specs.Sound.{keysOf, hasBothArcs, bothArcs, leadsOut, nextLeaves, previousArrives, zeroRow, unusedZero, positionsZero, allFinite}
-use Rattle.proved.proofs.Rows.{row-link, cell-row}
+use Rattle.proved.specs.Demand.{holdsSome}
+use Rattle.proved.proofs.Rows.{T-true, true-T, row-link, cell-row}
 use Rattle.names.proofs.Loops.{every-all, Passed, one-failed, all-passed}
 use Rattle.tables.proofs.Scans.{Counted, counted-one, counted-none}
 use Rattle.sound.specs.Tests.{blankRow, keyTest, bothRow, endsRow, leadsRow, nextRow, previousRow, looseRow, vertexTest, positionTest, arcTest, edgeTest, faceTest}
@@ -132,6 +134,23 @@ module _ (m : Mesh) where
 
     pub arcs-pass : there ≡ named → arcsSound m ≡ true
     arcs-pass q = all-pass ∙ eq-eqb _ _ (sym et ∙ q ∙ en)
+
+-- an arc with a face passes, and is an arc
+pub holder-passes : (arcs : Table) (r : List ℕ) → holdsSome r ≡ true → (arcTest arcs r ≡ true) × (used r ≡ true)
+unfolding arcTest blankRow looseRow
+holder-passes arcs r e =
+    let u = T-true (used r) (and-l (used r) (not (eqb (getD r 4 0) 0)) (true-T e)) in
+    let f = T-true (not (eqb (getD r 4 0) 0)) (and-r (used r) (not (eqb (getD r 4 0) 0)) (true-T e)) in
+    (rw (u, f), u)
+
+-- one more of two numbers: of the first, or of the second if so
+pub one-first : (held loose : ℕ) (b : Bool) → b ≡ true → held + 1 + loose ≡ cond b (held + loose + 1) (held + loose)
+one-first held loose true e = omega arith
+one-first held loose false e = let z : ⊥ = subst T (sym e) tt in absurd z
+
+pub one-second : (held loose more : ℕ) (b : Bool) → more ≡ cond b (loose + 1) loose → held + more ≡ cond b (held + loose + 1) (held + loose)
+one-second held loose more true e = omega arith
+one-second held loose more false e = omega arith
 
 -- a count, a row further
 module _ (p : List ℕ → Bool) (t : Table) (n i : ℕ) (l : i < length t) (h : Counted p t [] n i) (more : ℕ) where

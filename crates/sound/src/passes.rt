@@ -119,23 +119,27 @@ fn holds_some(row: ArcRow) -> bool
     row[4] != 0
 }
 
-// How many arcs hold a face, plus one, where every row passes and there are as many arcs as edges name; else 0.
+// How many arcs hold a face, plus one, where every row passes and there are as many arcs as edges name; else 0. A row that holds a face
+// passes: it is on a ring (faces.rt).
 pub fn arcs_held(arcs: &[ArcRow], named: usize) -> usize
     requires { ⌜ length (now arcs) ≤ 16384 ⌝ }
     ensures { λ r. ⌜ ((v : Table) (p : List (List Float)) (e f : Table) (k : List ℕ) → named ≡ 2 * count used e → r ≡ heldIf (arcsSound (mesh v p (now (arcs .entry)) e f k)) (now (arcs .entry))) ⌝ }
 {
-    let mut there: usize = 0;
     let mut held: usize = 0;
+    let mut loose: usize = 0;
     let mut i = 0;
     while i < arcs.len() {
-        if !arc_row(arcs, arcs[i]) {
-            return 0;
+        if holds_some(arcs[i]) {
+            held += 1;
+        } else {
+            if !arc_row(arcs, arcs[i]) {
+                return 0;
+            }
+            loose = plus(loose, arcs[i][0] != 0);
         }
-        there = plus(there, arcs[i][0] != 0);
-        held = plus(held, holds_some(arcs[i]));
         i += 1;
     }
-    if there != named {
+    if held + loose != named {
         return 0;
     }
     held + 1
