@@ -1,7 +1,7 @@
 -- A ring walked once, each arc's row read once: what is known of the arcs passed, and what each way out of the walk tells of the ring.
 use Prim.Native.Nat.{ℕ, _+_, _-_, _≤_, _<_}
 use native.Mathlib.Omega.{arith}
-use native.Mathlib.Decide.{ℕ-discrete}
+use native.Mathlib.Decide.{ℕ-discrete, decLt}
 use mathlib.Core.Path.{_≡_, refl, ap, sym, subst, _∙_}
 use mathlib.Core.Bool.{Bool, true, false, not, cond, _&&_}
 use mathlib.Core.List.{List, []}
@@ -14,8 +14,8 @@ use Rattle.rules.specs.Mesh.{Mesh, source, dest, next, previous, face, faceArc}
 use Rattle.rules.specs.Link.{ring}
 use Rattle.rules.proofs.Sums.{all-at}
 use Rattle.proved.proofs.Rows.{T-false, true-T, same-T, differ, differ-T, all-from, cell-row, link-row, in-table, every-at}
-use Rattle.sound.specs.Rings.{ringArc, ringRow, ringWhole, ringLinked, ringLength, linkedLength}
-use Rattle.sound.proofs.RingWalk.{on, on-none, on-more, Away, away-none, away-more, Walked, place-on, whole-walked, longer, length-is, every-on, source-fails, end-fails}
+use Rattle.sound.specs.Rings.{ringArc, ringRow, apart, ringWhole, ringLinked, ringLength, linkedLength}
+use Rattle.sound.proofs.RingWalk.{on, on-none, on-more, Away, away-none, away-more, Walked, place-on, whole-walked, longer, length-is, every-on, end-fails}
 
 -- ---- a row that the table has, read by the code's index
 
@@ -35,6 +35,35 @@ module _ (arcs : Table) (x w : ℕ) (e : w ≡ x) (h : (leb 1 x && leb x (length
   pub row-cell : (c : ℕ) → getD (getD arcs (w - 1) []) c 0 ≡ cell arcs x c
   row-cell c = sym (cell-row arcs (w - 1) c) ∙ ap (λ (y : ℕ). cell arcs y c) (link-row w index-some ∙ e)
 
+-- ---- numbers that differ, by their places
+
+module _ (l : List ℕ) (n : ℕ) where
+  pub apart-from : ((j k : ℕ) → j < n → k < n → getD l j 0 ≡ getD l k 0 → j ≡ k) → T (apart l n)
+  unfolding apart
+  apart-from h =
+      all-from (λ i. allBelow (λ j. not (eqb (getD l j 0) (getD l i 0))) i) n (λ i a. all-from (λ j. not (eqb (getD l j 0) (getD l i 0))) i (λ j b. differ-T _ _ (λ e. let q = h j i (omega arith) a e in omega arith)))
+
+  later : T (apart l n) → (j k : ℕ) → j < k → k < n → getD l j 0 ≡ getD l k 0 → ⊥
+  unfolding apart
+  later t j k a b e =
+      differ (getD l j 0) (getD l k 0) (all-at (λ j. not (eqb (getD l j 0) (getD l k 0))) k (all-at (λ i. allBelow (λ j. not (eqb (getD l j 0) (getD l i 0))) i) n t k b) j a) e
+
+  pub apart-at : T (apart l n) → (j k : ℕ) → j < n → k < n → getD l j 0 ≡ getD l k 0 → j ≡ k
+  apart-at t j k a b e = go (ℕ-discrete j k) (decLt j k)
+    where
+      go : Dec (j ≡ k) → Dec (j < k) → j ≡ k
+      go (yes q) d = q
+      go (no q) (yes l) = absurd (later t j k l b e)
+      go (no q) (no l) = absurd (later t k j (omega arith) a (sym e))
+
+pub apart-three : (l : List ℕ) → apart l 3 ≡ (allBelow (λ j. not (eqb (getD l j 0) (getD l 1 0))) 1 && allBelow (λ j. not (eqb (getD l j 0) (getD l 2 0))) 2)
+unfolding apart allBelow
+apart-three l = refl
+
+pub apart-four : (l : List ℕ) → apart l 4 ≡ (apart l 3 && allBelow (λ j. not (eqb (getD l j 0) (getD l 3 0))) 3)
+unfolding apart allBelow
+apart-four l = refl
+
 -- ---- the arcs passed
 
 module _ (arcs : Table) (first f : ℕ) where
@@ -42,18 +71,17 @@ module _ (arcs : Table) (first f : ℕ) where
   abbrev pub After : ℕ → Type 0
   After k = (cell arcs (on arcs first f (k + 1)) 3 ≡ on arcs first f k) × (cell arcs (on arcs first f (k + 1)) 0 ≡ cell arcs (on arcs first f k) 1)
 
-  -- the first n hold the face, each comes after the one before, and no two of them have one source
+  -- the first n hold the face, and each comes after the one before
   pub record Chain (n : ℕ) : Type 0 where
     pub holds : (k : ℕ) → k < n → T (there arcs (on arcs first f k) && eqb (cell arcs (on arcs first f k) 4) f)
     pub linked : (k : ℕ) → k + 1 < n → After k
-    pub apart : (j k : ℕ) → j < n → k < n → cell arcs (on arcs first f j) 0 ≡ cell arcs (on arcs first f k) 0 → j ≡ k
 
   chain-none : Chain 0
   chain-none =
-      record { holds = λ k l. let z : ⊥ = omega arith in absurd z; linked = λ k l. let z : ⊥ = omega arith in absurd z; apart = λ j k a b e. let z : ⊥ = omega arith in absurd z }
+      record { holds = λ k l. let z : ⊥ = omega arith in absurd z; linked = λ k l. let z : ⊥ = omega arith in absurd z }
 
-  chain-more : (n : ℕ) → Chain n → T (there arcs (on arcs first f n) && eqb (cell arcs (on arcs first f n) 4) f) → ((k : ℕ) → k + 1 ≡ n → After k) → ((j : ℕ) → j < n → cell arcs (on arcs first f j) 0 ≡ cell arcs (on arcs first f n) 0 → ⊥) → Chain (n + 1)
-  chain-more n c t b s = record { holds = λ k l. hold k (ℕ-discrete k n) l; linked = λ k l. link k (ℕ-discrete (k + 1) n) l; apart = λ j k a b e. one j k (ℕ-discrete j n) (ℕ-discrete k n) a b e }
+  chain-more : (n : ℕ) → Chain n → T (there arcs (on arcs first f n) && eqb (cell arcs (on arcs first f n) 4) f) → ((k : ℕ) → k + 1 ≡ n → After k) → Chain (n + 1)
+  chain-more n c t b = record { holds = λ k l. hold k (ℕ-discrete k n) l; linked = λ k l. link k (ℕ-discrete (k + 1) n) l }
     where
       hold : (k : ℕ) → Dec (k ≡ n) → k < n + 1 → T (there arcs (on arcs first f k) && eqb (cell arcs (on arcs first f k) 4) f)
       hold k (yes q) l = subst (λ (z : ℕ). T (there arcs (on arcs first f z) && eqb (cell arcs (on arcs first f z) 4) f)) (sym q) t
@@ -62,12 +90,6 @@ module _ (arcs : Table) (first f : ℕ) where
       link : (k : ℕ) → Dec (k + 1 ≡ n) → k + 1 < n + 1 → After k
       link k (yes q) l = b k q
       link k (no q) l = c .linked k (omega arith)
-
-      one : (j k : ℕ) → Dec (j ≡ n) → Dec (k ≡ n) → j < n + 1 → k < n + 1 → cell arcs (on arcs first f j) 0 ≡ cell arcs (on arcs first f k) 0 → j ≡ k
-      one j k (yes p) (yes q) a b e = p ∙ sym q
-      one j k (yes p) (no q) a b e = absurd (s k (omega arith) (sym e ∙ ap (λ (z : ℕ). cell arcs (on arcs first f z) 0) p))
-      one j k (no p) (yes q) a b e = absurd (s j (omega arith) (e ∙ ap (λ (z : ℕ). cell arcs (on arcs first f z) 0) q))
-      one j k (no p) (no q) a b e = c .apart j k (omega arith) (omega arith) e
 
 -- the loop: n arcs are passed, x is next, the list has the sources of those passed, and `before`, which ends at `end`, is the last of them
 pub record Going (arcs : Table) (first f : ℕ) (sources : List ℕ) (n x before end : ℕ) : Type 0 where
@@ -124,9 +146,13 @@ module _ (m : Mesh) (f : ℕ) where
       let q : source m (next m y) ≡ dest m y = eqb→eq _ _ (subst (λ (x : ℕ). T (eqb (source m (next m x)) (dest m x))) (place-on m f k l) t) in
       (ap (previous m) (on-more a o f k) ∙ p, ap (source m) (on-more a o f k) ∙ q)
 
+  -- the first n arcs have different sources
+  abbrev Apart : ℕ → Type 0
+  Apart n = (j k : ℕ) → j < n → k < n → cell a (on a o f j) 0 ≡ cell a (on a o f k) 0 → j ≡ k
+
   -- a walk that comes back
   module _ (n : ℕ) (c : Chain a o f (n + 1)) (z : Away a o f n) (e : on a o f (n + 1) ≡ o) (few : n < 64) where
-    module _ (w : After a o f n) where
+    module _ (w : After a o f n) (d : Apart (n + 1)) where
       link : (k : ℕ) → k < n + 1 → After a o f k
       link k l = go (ℕ-discrete k n)
         where
@@ -139,7 +165,7 @@ module _ (m : Mesh) (f : ℕ) where
       walked =
           record {
             passes = λ k l. and-i (there a (on a o f k) && eqb (face m (on a o f k)) f) (eqb (previous m (next m (on a o f k))) (on a o f k)) (c .holds k l) (same-T _ _ (sym (ap (previous m) (on-more a o f k)) ∙ link k l .0));
-            apart = c .apart;
+            apart = d;
           }
 
       all-linked : T (ringLinked m f)
@@ -151,16 +177,27 @@ module _ (m : Mesh) (f : ℕ) where
       closes = length-is m f n walked z e few ∙ linked-whole all-linked
 
     -- the last arc compared with the first
-    closed : (x : ℕ) → x ≡ on a o f n → cond (eqb x (cell a o 3) && eqb (cell a x 1) (cell a o 0)) (cond (leb 3 (n + 1)) (n + 1) 0) 0 ≡ linkedLength m f
-    closed x ex = go (eqb x (cell a o 3) && eqb (cell a x 1) (cell a o 0)) refl
-      where
-        go : (b : Bool) → (eqb x (cell a o 3) && eqb (cell a x 1) (cell a o 0)) ≡ b → cond b (cond (leb 3 (n + 1)) (n + 1) 0) 0 ≡ linkedLength m f
-        go true q =
-            let p = eqb→eq x (cell a o 3) (and-l (eqb x (cell a o 3)) (eqb (cell a x 1) (cell a o 0)) (true-T q)) in
-            let r = eqb→eq (cell a x 1) (cell a o 0) (and-r (eqb x (cell a o 3)) (eqb (cell a x 1) (cell a o 0)) (true-T q)) in
-            closes (ap (previous m) e ∙ sym p ∙ ex, ap (source m) e ∙ sym r ∙ ap (dest m) ex)
-        go false q =
-            none-linked (λ h. let w = after-on h n (longer m f (and-l (ringWhole m f) (ringLinked m f) h) n z) in subst T q (and-i (eqb x (cell a o 3)) (eqb (cell a x 1) (cell a o 0)) (same-T _ _ (ex ∙ sym (w .0) ∙ ap (previous m) e)) (same-T _ _ (ap (dest m) ex ∙ sym (w .1) ∙ ap (source m) e))))
+    module _ (x : ℕ) (ex : x ≡ on a o f n) where
+      abbrev met : Bool
+      met = eqb x (cell a o 3) && eqb (cell a x 1) (cell a o 0)
+
+      beyond : Full → n < length (ring m f)
+      beyond h = longer m f (and-l (ringWhole m f) (ringLinked m f) h) n z
+
+      not-met : met ≡ false → 0 ≡ linkedLength m f
+      not-met q =
+          none-linked (λ h. let w = after-on h n (beyond h) in subst T q (and-i (eqb x (cell a o 3)) (eqb (cell a x 1) (cell a o 0)) (same-T _ _ (ex ∙ sym (w .0) ∙ ap (previous m) e)) (same-T _ _ (ap (dest m) ex ∙ sym (w .1) ∙ ap (source m) e))))
+
+      met-closes : met ≡ true → Apart (n + 1) → cond (leb 3 (n + 1)) (n + 1) 0 ≡ linkedLength m f
+      met-closes q d =
+          let p = eqb→eq x (cell a o 3) (and-l (eqb x (cell a o 3)) (eqb (cell a x 1) (cell a o 0)) (true-T q)) in
+          let r = eqb→eq (cell a x 1) (cell a o 0) (and-r (eqb x (cell a o 3)) (eqb (cell a x 1) (cell a o 0)) (true-T q)) in
+          closes (ap (previous m) e ∙ sym p ∙ ex, ap (source m) e ∙ sym r ∙ ap (dest m) ex) d
+
+      -- a source for the second time: whatever tells that, where it would pass with none twice
+      not-apart : (b : Bool) → (Apart (n + 1) → T b) → b ≡ false → 0 ≡ linkedLength m f
+      not-apart b g q =
+          none-linked (λ h. let l = beyond h in let w = whole-walked m f (and-l (ringWhole m f) (ringLinked m f) h) in subst T q (g (λ j k u v r. w .apart j k (omega arith) (omega arith) r)))
 
   -- what a whole and linked ring has at the arc that is next
   module _ (sources : List ℕ) (n x before end : ℕ) (g : Going a o f sources n x before end) (h : Full) where
@@ -234,20 +271,11 @@ module _ (arcs : Table) (first f : ℕ) where
       abbrev s : ℕ
       s = getD row 0 0
 
-      abbrev fresh : Bool
-      fresh = allBelow (λ j. not (eqb (getD sources j 0) s)) n
-
       source-is : s ≡ cell arcs (on arcs first f n) 0
       source-is = er 0 ∙ ap (λ (z : ℕ). cell arcs z 0) (g .here)
 
-      pub source-out : fresh ≡ false → Told 0
-      source-out e m ea ef =
-          not-whole m f
-          (source-fails m f arcs first ea ef n fresh
-          (λ h. all-from (λ j. not (eqb (getD sources j 0) s)) n (λ j l. differ-T (getD sources j 0) s (λ q. h j l (sym (g .kept j l) ∙ q ∙ source-is)))) (g .away) e)
-
       -- x passes
-      module _ (few : n < 64) (p : ringRow row f before end ≡ true) (q : fresh ≡ true) where
+      module _ (few : n < 64) (p : ringRow row f before end ≡ true) where
         abbrev Passes : Type 0
         Passes = T (there arcs x && eqb (cell arcs x 4) f) × ((cell arcs x 3 ≡ before) × (cell arcs x 0 ≡ end))
 
@@ -267,16 +295,36 @@ module _ (arcs : Table) (first f : ℕ) where
             let l = g .last k e in
             let y : on arcs first f (k + 1) ≡ x = ap (on arcs first f) e ∙ sym (g .here) in
             (ap (λ (z : ℕ). cell arcs z 3) y ∙ passes .1 .0 ∙ l .0, ap (λ (z : ℕ). cell arcs z 0) y ∙ passes .1 .1 ∙ l .1))
-            (λ j l e. differ (getD sources j 0) s (all-at (λ k. not (eqb (getD sources k 0) s)) n (true-T q) j l) (g .kept j l ∙ e ∙ sym source-is))
 
         next-is : getD row 2 0 ≡ on arcs first f (n + 1)
         next-is = er 2 ∙ ap (λ (z : ℕ). cell arcs z 2) (g .here) ∙ sym (on-more arcs first f n)
 
-        pub back-out : (back begin : ℕ) → back ≡ cell arcs first 3 → begin ≡ cell arcs first 0 → getD row 2 0 ≡ first → Told (cond (eqb x back && eqb (getD row 1 0) begin) (cond (leb 3 (n + 1)) (n + 1) 0) 0)
-        back-out back begin eb es e m ea ef =
-            rw (eb, es, er 1)
-            (as-read m ea ef (λ t y. Chain t y f (n + 1) → Away t y f n → on t y f (n + 1) ≡ y → x ≡ on t y f n → cond (eqb x (cell t y 3) && eqb (cell t x 1) (cell t y 0)) (cond (leb 3 (n + 1)) (n + 1) 0) 0 ≡ linkedLength m f)
-            (λ c z r i. closed m f n c z r few x i) one-further (g .away) (sym next-is ∙ e) (g .here))
+        kept-on : (k : ℕ) → k < n + 1 → getD (set sources n s) k 0 ≡ cell arcs (on arcs first f k) 0
+        kept-on k l = go (ℕ-discrete k n)
+          where
+            go : Dec (k ≡ n) → getD (set sources n s) k 0 ≡ cell arcs (on arcs first f k) 0
+            go (yes z) = ap (λ (i : ℕ). getD (set sources n s) i 0) z ∙ getD-set-same sources n s 0 (omega (arith, g .size)) ∙ source-is ∙ ap (λ (i : ℕ). cell arcs (on arcs first f i) 0) (sym z)
+            go (no z) = getD-set-other sources n k s 0 z ∙ g .kept k (omega arith)
+
+        -- back at the first
+        module _ (back begin : ℕ) (eb : back ≡ cell arcs first 3) (es : begin ≡ cell arcs first 0) (e : getD row 2 0 ≡ first) where
+          met-is : (eqb x back && eqb (getD row 1 0) begin) ≡ (eqb x (cell arcs first 3) && eqb (cell arcs x 1) (cell arcs first 0))
+          met-is = rw (eb, es, er 1)
+
+          pub met-out : (eqb x back && eqb (getD row 1 0) begin) ≡ false → Told 0
+          met-out q m ea ef =
+              as-read m ea ef (λ t y. Chain t y f (n + 1) → Away t y f n → on t y f (n + 1) ≡ y → x ≡ on t y f n → (eqb x (cell t y 3) && eqb (cell t x 1) (cell t y 0)) ≡ false → 0 ≡ linkedLength m f)
+              (λ c z r i u. not-met m f n c z r few x i u) one-further (g .away) (sym next-is ∙ e) (g .here) (sym met-is ∙ q)
+
+          pub apart-out : apart (set sources n s) (n + 1) ≡ false → Told 0
+          apart-out q m ea ef =
+              as-read m ea ef (λ t y. Chain t y f (n + 1) → Away t y f n → on t y f (n + 1) ≡ y → x ≡ on t y f n → ((k : ℕ) → k < n + 1 → getD (set sources n s) k 0 ≡ cell t (on t y f k) 0) → 0 ≡ linkedLength m f)
+              (λ c z r i u. not-apart m f n c z r few x i (apart (set sources n s) (n + 1)) (λ d. apart-from (set sources n s) (n + 1) (λ j k a b v. d j k a b (sym (u j a) ∙ v ∙ u k b))) q) one-further (g .away) (sym next-is ∙ e) (g .here) kept-on
+
+          pub back-out : (eqb x back && eqb (getD row 1 0) begin) ≡ true → apart (set sources n s) (n + 1) ≡ true → Told (cond (leb 3 (n + 1)) (n + 1) 0)
+          back-out q d m ea ef =
+              as-read m ea ef (λ t y. Chain t y f (n + 1) → Away t y f n → on t y f (n + 1) ≡ y → x ≡ on t y f n → (eqb x (cell t y 3) && eqb (cell t x 1) (cell t y 0)) ≡ true → ((k : ℕ) → k < n + 1 → getD (set sources n s) k 0 ≡ cell t (on t y f k) 0) → cond (leb 3 (n + 1)) (n + 1) 0 ≡ linkedLength m f)
+              (λ c z r i w u. met-closes m f n c z r few x i w (λ j k a b v. apart-at (set sources n s) (n + 1) (true-T d) j k a b (u j a ∙ v ∙ sym (u k b)))) one-further (g .away) (sym next-is ∙ e) (g .here) (sym met-is ∙ q) kept-on
 
         pub going-on : (getD row 2 0 ≡ first → ⊥) → Going arcs first f (set sources n s) (n + 1) (getD row 2 0) x (getD row 1 0)
         going-on e =
@@ -285,11 +333,7 @@ module _ (arcs : Table) (first f : ℕ) where
               here = next-is;
               chain = one-further;
               away = away-more arcs first f n (g .away) (λ z. e (next-is ∙ z));
-              kept = λ k l. go k (ℕ-discrete k n) l;
+              kept = kept-on;
               last = λ k l. let z : k ≡ n = omega arith in (g .here ∙ ap (on arcs first f) (sym z), er 1 ∙ ap (λ (y : ℕ). cell arcs y 1) (g .here ∙ ap (on arcs first f) (sym z)));
               start = λ z. let y : ⊥ = omega arith in absurd y;
             }
-          where
-            go : (k : ℕ) → Dec (k ≡ n) → k < n + 1 → getD (set sources n s) k 0 ≡ cell arcs (on arcs first f k) 0
-            go k (yes z) l = ap (λ (i : ℕ). getD (set sources n s) i 0) z ∙ getD-set-same sources n s 0 (omega (arith, g .size)) ∙ source-is ∙ ap (λ (i : ℕ). cell arcs (on arcs first f i) 0) (sym z)
-            go k (no z) l = getD-set-other sources n k s 0 z ∙ g .kept k (omega arith)

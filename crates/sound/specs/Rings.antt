@@ -1,10 +1,10 @@
 -- A ring as the code tests it: all that is asked of one ring but that no arc off it holds the face, which is counted over all rings.
 use Prim.Native.Nat.{ℕ}
-use mathlib.Core.Bool.{Bool, _&&_, cond}
+use mathlib.Core.Bool.{Bool, not, _&&_, cond}
 use mathlib.Core.List.{List}
 use lib.ListN.{length, getD}
 use lib.Dec.{eqb}
-use Rattle.rules.specs.Table.{Table, cell, there, used, every, eachUsed}
+use Rattle.rules.specs.Table.{Table, cell, there, used, every, eachUsed, allBelow}
 use Rattle.rules.specs.Mesh.{Mesh, source, dest, next}
 use Rattle.rules.specs.Link.{ring}
 use Rattle.proved.specs.Demand.{overFaces, allHolders}
@@ -31,6 +31,10 @@ ringLinked m f = every (λ x. eqb (source m (next m x)) (dest m x)) (ring m f)
 -- an arc's row on the ring of f, after the arc `before`, which ends at `end`
 unfoldable pub ringRow : List ℕ → ℕ → ℕ → ℕ → Bool
 ringRow r f before end = used r && (eqb (getD r 4 0) f && (eqb (getD r 3 0) before && eqb (getD r 0 0) end))
+
+-- the first n numbers of a list differ
+unfoldable pub apart : List ℕ → ℕ → Bool
+apart l n = allBelow (λ i. allBelow (λ j. not (eqb (getD l j 0) (getD l i 0))) i) n
 
 unfoldable pub linkedLength : Mesh → ℕ → ℕ
 linkedLength m f = cond (ringWhole m f && ringLinked m f) (length (ring m f)) 0

@@ -18,7 +18,7 @@ ghost use lib.Dec.{eqb, leb};
 ghost use Rattle.rules.specs.Table.{Table, cell, count, allBelow};
 ghost use Rattle.rules.specs.Mesh.{Mesh, mesh, faceArc};
 ghost use Rattle.proved.specs.Demand.{holdsSome};
-ghost use Rattle.sound.specs.Rings.{ringArc, ringLength, ringRow, linkedLength, ringsFull};
+ghost use Rattle.sound.specs.Rings.{ringArc, ringLength, ringRow, apart, linkedLength, ringsFull};
 
 // ---- one ring, walked once
 
@@ -123,17 +123,60 @@ fn ring_row(row: ArcRow, f: usize, before: u32, end: u32) -> bool
     row[0] == end
 }
 
-// The walk is back: its last arc is the one before the first, ends where the first leaves, and is at least the third.
-fn closed_length(n: usize, before: u32, back: u32, end: u32, start: u32) -> usize
-    ensures { λ r. ⌜ r ≡ cond (eqb before back && eqb end start) (cond (leb 3 n) n 0) 0 ⌝ }
+// Sources are distinct, the first three, the first four, or the first n: most rings have three arcs or four.
+fn three_apart(sources: &[u32; RING]) -> bool
+    ensures { λ r. ⌜ r ≡ apart (now (sources .entry)) 3 ⌝ }
+{
+    if !new_source(sources, 1, sources[1]) {
+        return false;
+    }
+    new_source(sources, 2, sources[2])
+}
+
+fn four_apart(sources: &[u32; RING]) -> bool
+    ensures { λ r. ⌜ r ≡ apart (now (sources .entry)) 4 ⌝ }
+{
+    if !three_apart(sources) {
+        return false;
+    }
+    new_source(sources, 3, sources[3])
+}
+
+fn all_apart(sources: &[u32; RING], n: usize) -> bool
+    requires { ⌜ n ≤ 64 ⌝ }
+    ensures { λ r. ⌜ r ≡ apart (now (sources .entry)) n ⌝ }
+{
+    let mut i = 0;
+    while i < n {
+        if !new_source(sources, i, sources[i]) {
+            return false;
+        }
+        i += 1;
+    }
+    true
+}
+
+fn sources_apart(sources: &[u32; RING], n: usize) -> bool
+    requires { ⌜ n ≤ 64 ⌝ }
+    ensures { λ r. ⌜ r ≡ apart (now (sources .entry)) n ⌝ }
+{
+    if n == 3 {
+        return three_apart(sources);
+    }
+    if n == 4 {
+        return four_apart(sources);
+    }
+    all_apart(sources, n)
+}
+
+// The walk is back: its last arc is the one before the first, and ends where the first leaves.
+fn meets_first(before: u32, back: u32, end: u32, start: u32) -> bool
+    ensures { λ r. ⌜ r ≡ (eqb before back && eqb end start) ⌝ }
 {
     if before != back {
-        return 0;
+        return false;
     }
-    if end != start {
-        return 0;
-    }
-    three_or_none(n)
+    end == start
 }
 
 // How many arcs the ring of a face has, where all that is asked of one ring holds and its arcs are linked; else 0. Each arc's row is
@@ -156,16 +199,19 @@ fn linked_length(sources: &mut [u32; RING], arcs: &[ArcRow], first: u32, f: usiz
         if !ring_row(row, f, before, end) {
             return 0;
         }
-        if !new_source(sources, n, row[0]) {
-            return 0;
-        }
         sources[n] = row[0];
         n += 1;
         before = x;
         end = row[1];
         x = row[2];
         if x == first {
-            return closed_length(n, before, back, end, start);
+            if !meets_first(before, back, end, start) {
+                return 0;
+            }
+            if !sources_apart(sources, n) {
+                return 0;
+            }
+            return three_or_none(n);
         }
     }
     0

@@ -5,7 +5,7 @@ use mathlib.Core.List.{[]}
 use lib.ListN.{getD}
 use borrow.Author.Tests.{not-true, not-false}
 use Rattle.rules.specs.Table.{cell}
-use Rattle.sound.proofs.RingLinked.{Going, going-start, going-on, index-some, index-in, row-cell, past-out, row-out, source-out, back-out, end-out}
+use Rattle.sound.proofs.RingLinked.{Going, going-start, going-on, index-some, index-in, row-cell, past-out, row-out, met-out, apart-out, back-out, end-out}
 use borrow.Author.Needs.{needs}
 use Rattle.sound.proofs.faces.linked_length.Statement.{statement}
 use Rattle.sound.proofs.faces.linked_length.Tie as tie
@@ -69,18 +69,6 @@ returns-2 c =
     let a = l .before .before .before .before .before .args in
     row-out (a .arcs .now) (a .first) (a .f) (l .loop .sources) (l .loop .n) (l .loop .x) (l .loop .before) (l .loop .end) (l .loop .inv .0) (getD (a .arcs .now) (c .before .before .before .wide .result - 1) []) (row-cell (a .arcs .now) (l .loop .x) (c .before .before .before .wide .result) (c .before .before .before .wide .ensures) (sym (c .before .before .before .before .before .has-row .ensures) ∙ not-false _ (c .before .before .before .before .if1 .left))) (sym (c .before .ring-row .ensures) ∙ not-true _ (c .if2 .taken))
 
-array-read-new-source : tie.Need-array-read-new-source Inv-loop μ-loop
-array-read-new-source c = search needs
-
-new-source-requires : tie.Need-new-source-requires Inv-loop μ-loop
-new-source-requires c κs = search needs
-
-returns-3 : tie.Need-returns-3 Inv-loop μ-loop
-returns-3 c =
-    let l = c .before .before .before .before .before .before .before .before .before .before in
-    let a = l .before .before .before .before .before .args in
-    source-out (a .arcs .now) (a .first) (a .f) (l .loop .sources) (l .loop .n) (l .loop .x) (l .loop .before) (l .loop .end) (l .loop .inv .0) (getD (a .arcs .now) (c .before .before .before .before .before .before .wide .result - 1) []) (row-cell (a .arcs .now) (l .loop .x) (c .before .before .before .before .before .before .wide .result) (c .before .before .before .before .before .before .wide .ensures) (sym (c .before .before .before .before .before .before .before .before .has-row .ensures) ∙ not-false _ (c .before .before .before .before .before .before .before .if1 .left))) (sym (c .before .new-source .ensures) ∙ not-true _ (c .if3 .taken))
-
 array-read-sources : tie.Need-array-read-sources Inv-loop μ-loop
 array-read-sources c = search needs
 
@@ -99,26 +87,44 @@ array-read-end c = search needs
 array-read-x : tie.Need-array-read-x Inv-loop μ-loop
 array-read-x c = search needs
 
-closed-length-requires : tie.Need-closed-length-requires Inv-loop μ-loop
-closed-length-requires c κs = search needs
+meets-first-requires : tie.Need-meets-first-requires Inv-loop μ-loop
+meets-first-requires c κs = search needs
+
+returns-3 : tie.Need-returns-3 Inv-loop μ-loop
+returns-3 c =
+    let l = c .before .before .before .before .before .before .before .before .before .before in
+    let a = l .before .before .before .before .before .args in
+    met-out (a .arcs .now) (a .first) (a .f) (l .loop .sources) (l .loop .n) (l .loop .x) (l .loop .before) (l .loop .end) (l .loop .inv .0) (getD (a .arcs .now) (c .before .before .before .before .before .before .wide .result - 1) []) (row-cell (a .arcs .now) (l .loop .x) (c .before .before .before .before .before .before .wide .result) (c .before .before .before .before .before .before .wide .ensures) (sym (c .before .before .before .before .before .before .before .before .has-row .ensures) ∙ not-false _ (c .before .before .before .before .before .before .before .if1 .left))) (omega arith) (sym (c .before .before .before .before .ring-row .ensures) ∙ not-false _ (c .before .before .before .if2 .left)) (c .before .before .before .before .before .before .before .before .before .before .before .before .cell6 .result) (c .before .before .before .before .before .before .before .before .before .before .before .cell62 .result) (l .loop .inv .1 .0) (l .loop .inv .1 .1) (c .before .before .if3 .taken) (sym (c .before .meets-first .ensures) ∙ not-true _ (c .if4 .taken))
+
+sources-apart-requires : tie.Need-sources-apart-requires Inv-loop μ-loop
+sources-apart-requires c κs = search needs
 
 returns-4 : tie.Need-returns-4 Inv-loop μ-loop
 returns-4 c =
-    let l = c .before .before .before .before .before .before .before .before .before .before .before .before in
+    let l = c .before .before .before .before .before .before .before .before .before .before .before .before .before in
     let a = l .before .before .before .before .before .args in
-    λ m ea ef. c .closed-length .ensures ∙ back-out (a .arcs .now) (a .first) (a .f) (l .loop .sources) (l .loop .n) (l .loop .x) (l .loop .before) (l .loop .end) (l .loop .inv .0) (getD (a .arcs .now) (c .before .before .before .before .before .before .before .before .wide .result - 1) []) (row-cell (a .arcs .now) (l .loop .x) (c .before .before .before .before .before .before .before .before .wide .result) (c .before .before .before .before .before .before .before .before .wide .ensures) (sym (c .before .before .before .before .before .before .before .before .before .before .has-row .ensures) ∙ not-false _ (c .before .before .before .before .before .before .before .before .before .if1 .left))) (omega arith) (sym (c .before .before .before .before .before .before .ring-row .ensures) ∙ not-false _ (c .before .before .before .before .before .if2 .left)) (sym (c .before .before .before .new-source .ensures) ∙ not-false _ (c .before .before .if3 .left)) (c .before .before .before .before .before .before .before .before .before .before .before .before .before .before .cell6 .result) (c .before .before .before .before .before .before .before .before .before .before .before .before .before .cell62 .result) (l .loop .inv .1 .0) (l .loop .inv .1 .1) (c .before .if4 .taken) m ea ef
+    apart-out (a .arcs .now) (a .first) (a .f) (l .loop .sources) (l .loop .n) (l .loop .x) (l .loop .before) (l .loop .end) (l .loop .inv .0) (getD (a .arcs .now) (c .before .before .before .before .before .before .before .before .before .wide .result - 1) []) (row-cell (a .arcs .now) (l .loop .x) (c .before .before .before .before .before .before .before .before .before .wide .result) (c .before .before .before .before .before .before .before .before .before .wide .ensures) (sym (c .before .before .before .before .before .before .before .before .before .before .before .has-row .ensures) ∙ not-false _ (c .before .before .before .before .before .before .before .before .before .before .if1 .left))) (omega arith) (sym (c .before .before .before .before .before .before .before .ring-row .ensures) ∙ not-false _ (c .before .before .before .before .before .before .if2 .left)) (c .before .before .before .before .before .before .before .before .before .before .before .before .before .before .before .cell6 .result) (c .before .before .before .before .before .before .before .before .before .before .before .before .before .before .cell62 .result) (l .loop .inv .1 .0) (l .loop .inv .1 .1) (c .before .before .before .before .before .if3 .taken) (sym (c .before .sources-apart .ensures) ∙ not-true _ (c .if5 .taken))
+
+three-or-none-requires : tie.Need-three-or-none-requires Inv-loop μ-loop
+three-or-none-requires c κs = search needs
+
+returns-5 : tie.Need-returns-5 Inv-loop μ-loop
+returns-5 c =
+    let l = c .before .before .before .before .before .before .before .before .before .before .before .before .before .before in
+    let a = l .before .before .before .before .before .args in
+    λ m ea ef. c .three-or-none .ensures ∙ back-out (a .arcs .now) (a .first) (a .f) (l .loop .sources) (l .loop .n) (l .loop .x) (l .loop .before) (l .loop .end) (l .loop .inv .0) (getD (a .arcs .now) (c .before .before .before .before .before .before .before .before .before .before .wide .result - 1) []) (row-cell (a .arcs .now) (l .loop .x) (c .before .before .before .before .before .before .before .before .before .before .wide .result) (c .before .before .before .before .before .before .before .before .before .before .wide .ensures) (sym (c .before .before .before .before .before .before .before .before .before .before .before .before .has-row .ensures) ∙ not-false _ (c .before .before .before .before .before .before .before .before .before .before .before .if1 .left))) (omega arith) (sym (c .before .before .before .before .before .before .before .before .ring-row .ensures) ∙ not-false _ (c .before .before .before .before .before .before .before .if2 .left)) (c .before .before .before .before .before .before .before .before .before .before .before .before .before .before .before .before .cell6 .result) (c .before .before .before .before .before .before .before .before .before .before .before .before .before .before .before .cell62 .result) (l .loop .inv .1 .0) (l .loop .inv .1 .1) (c .before .before .before .before .before .before .if3 .taken) (sym (c .before .before .before .before .before .meets-first .ensures) ∙ not-false _ (c .before .before .before .before .if4 .left)) (sym (c .before .before .sources-apart .ensures) ∙ not-false _ (c .before .if5 .left)) m ea ef
 
 loop-less : tie.Need-loop-less Inv-loop μ-loop
 loop-less c = search needs
 
 loop-again : tie.Need-loop-again Inv-loop μ-loop
 loop-again c =
-    let l = c .before .before .before .before .before .before .before .before .before .before .before in
+    let l = c .before .before .before .before .before .before .before .before in
     let a = l .before .before .before .before .before .args in
-    (going-on (a .arcs .now) (a .first) (a .f) (l .loop .sources) (l .loop .n) (l .loop .x) (l .loop .before) (l .loop .end) (l .loop .inv .0) (getD (a .arcs .now) (c .before .before .before .before .before .before .before .wide .result - 1) []) (row-cell (a .arcs .now) (l .loop .x) (c .before .before .before .before .before .before .before .wide .result) (c .before .before .before .before .before .before .before .wide .ensures) (sym (c .before .before .before .before .before .before .before .before .before .has-row .ensures) ∙ not-false _ (c .before .before .before .before .before .before .before .before .if1 .left))) (omega arith) (sym (c .before .before .before .before .before .ring-row .ensures) ∙ not-false _ (c .before .before .before .before .if2 .left)) (sym (c .before .before .new-source .ensures) ∙ not-false _ (c .before .if3 .left)) (c .if4 .left), l .loop .inv .1)
+    (going-on (a .arcs .now) (a .first) (a .f) (l .loop .sources) (l .loop .n) (l .loop .x) (l .loop .before) (l .loop .end) (l .loop .inv .0) (getD (a .arcs .now) (c .before .before .before .before .wide .result - 1) []) (row-cell (a .arcs .now) (l .loop .x) (c .before .before .before .before .wide .result) (c .before .before .before .before .wide .ensures) (sym (c .before .before .before .before .before .before .has-row .ensures) ∙ not-false _ (c .before .before .before .before .before .if1 .left))) (omega arith) (sym (c .before .before .ring-row .ensures) ∙ not-false _ (c .before .if2 .left)) (c .if3 .left), l .loop .inv .1)
 
-returns-5 : tie.Need-returns-5 Inv-loop μ-loop
-returns-5 c =
+returns-6 : tie.Need-returns-6 Inv-loop μ-loop
+returns-6 c =
     let l = c .before in
     let a = l .before .before .before .before .before .args in
     end-out (a .arcs .now) (a .first) (a .f) (l .loop .sources) (l .loop .n) (l .loop .x) (l .loop .before) (l .loop .end) (l .loop .inv .0) (omega arith)
@@ -141,17 +147,18 @@ linked-length-spec =
     shared-slice-copy-out-row
     ring-row-requires
     returns-2
-    array-read-new-source
-    new-source-requires
-    returns-3
     array-read-sources
     mul-sources
     element-write-sources
     add-n
     array-read-end
     array-read-x
-    closed-length-requires
+    meets-first-requires
+    returns-3
+    sources-apart-requires
     returns-4
+    three-or-none-requires
+    returns-5
     loop-less
     loop-again
-    returns-5)
+    returns-6)
