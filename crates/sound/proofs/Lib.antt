@@ -8,4 +8,5 @@ pub mod RingSums
 pub mod RingFull
 pub mod RingTell
 pub mod Joining
+pub mod Ends
 pub mod Groups

@@ -22,6 +22,14 @@ keyTest counter first = eqb first 0 || ltb (first - 1) counter
 
 -- ---- edges and arcs
 
+-- two arcs' rows hold the edge and have each other's ends swapped; two vertices differ and exist
+unfoldable pub oppositeRows : List ℕ → List ℕ → ℕ → Bool
+oppositeRows p q e =
+    eqb (getD p 5 0) e && (eqb (getD q 5 0) e && (eqb (getD p 0 0) (getD q 1 0) && eqb (getD p 1 0) (getD q 0 0)))
+
+unfoldable pub twoVertices : Table → ℕ → ℕ → Bool
+twoVertices vertices a b = not (eqb a b) && (there vertices a && there vertices b)
+
 unfoldable pub bothRow : Table → List ℕ → ℕ → Bool
 bothRow arcs r e =
     let x = getD r 1 0 in

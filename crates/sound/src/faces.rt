@@ -98,7 +98,7 @@ pub fn ring_length(sources: &mut [u32; RING], arcs: &[ArcRow], first: u32, f: us
 // ---- one ring, its arcs linked: each leaves where the arc before ends
 
 // Whether the table has a row with the link.
-fn has_row(arcs: &[ArcRow], x: u32) -> bool
+pub fn has_row(arcs: &[ArcRow], x: u32) -> bool
     ensures { λ r. ⌜ r ≡ (leb 1 x && leb x (length (now (arcs .entry)))) ⌝ }
 {
     if x == 0 {

@@ -55,10 +55,7 @@ fn edge_row(vertices: &[VertexRow], arcs: &[ArcRow], counter: u32, row: EdgeRow,
     if !keys::key_below(row[0], counter) {
         return false;
     }
-    if !edges::both_row(arcs, row, e) {
-        return false;
-    }
-    edges::ends_row(vertices, arcs, row)
+    edges::edge_arcs(vertices, arcs, row, e)
 }
 
 fn face_row(counter: u32, row: FaceRow) -> bool

@@ -22,19 +22,12 @@ returns-2 : tie.Need-returns-2
 unfolding edgeTest
 returns-2 c = rw (sym (c .before .before .before .blank3 .ensures) ∙ not-false _ (c .before .before .if1 .left), sym (c .before .key-below .ensures) ∙ not-true _ (c .if2 .taken))
 
-both-row-requires : tie.Need-both-row-requires
-both-row-requires c κs = search needs
+edge-arcs-requires : tie.Need-edge-arcs-requires
+edge-arcs-requires c κs = search needs
 
 returns-3 : tie.Need-returns-3
 unfolding edgeTest
-returns-3 c = rw (sym (c .before .before .before .before .before .blank3 .ensures) ∙ not-false _ (c .before .before .before .before .if1 .left), sym (c .before .before .before .key-below .ensures) ∙ not-false _ (c .before .before .if2 .left), sym (c .before .both-row .ensures) ∙ not-true _ (c .if3 .taken))
-
-ends-row-requires : tie.Need-ends-row-requires
-ends-row-requires c κs = search needs
-
-returns-4 : tie.Need-returns-4
-unfolding edgeTest
-returns-4 c = rw (sym (c .before .before .before .before .before .before .blank3 .ensures) ∙ not-false _ (c .before .before .before .before .before .if1 .left), sym (c .before .before .before .before .key-below .ensures) ∙ not-false _ (c .before .before .before .if2 .left), sym (c .before .before .both-row .ensures) ∙ not-false _ (c .before .if3 .left)) (c .ends-row .ensures)
+returns-3 c = rw (sym (c .before .before .before .before .blank3 .ensures) ∙ not-false _ (c .before .before .before .if1 .left), sym (c .before .before .key-below .ensures) ∙ not-false _ (c .before .if2 .left)) (c .edge-arcs .ensures)
 
 pub edge-row-spec : {M : Type 1} → statement M
 edge-row-spec =
@@ -45,7 +38,5 @@ edge-row-spec =
     array-read-key-below
     key-below-requires
     returns-2
-    both-row-requires
-    returns-3
-    ends-row-requires
-    returns-4)
+    edge-arcs-requires
+    returns-3)
