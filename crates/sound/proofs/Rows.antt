@@ -33,6 +33,14 @@ all-and p q (suc n) = go (allBelow p n) (allBelow q n) (p n) (q n) ∙ ap (λ (b
     go true false false d = refl
     go false b c d = refl
 
+pub and-true : (b : Bool) → (b && true) ≡ b
+and-true true = refl
+and-true false = refl
+
+pub used-blank : (r : List ℕ) → (getD r 0 0 ≡ 0 → ⊥) → blankRow r ≡ true
+unfolding blankRow
+used-blank r u = rw (ne-eqb (getD r 0 0) 0 u)
+
 and-assoc : (a b c : Bool) → (a && (b && c)) ≡ ((a && b) && c)
 and-assoc true b c = refl
 and-assoc false b c = refl

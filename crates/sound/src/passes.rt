@@ -28,8 +28,8 @@ ghost use Rattle.sound.specs.Parts.{verticesSound, positionsSound, arcsS
 fn vertex_row(arcs: &[ArcRow], counter: u32, row: VertexRow, v: usize) -> bool
     ensures { λ r. ⌜ r ≡ vertexTest (now (arcs .entry)) counter row v ⌝ }
 {
-    if !blanks::blank2(row) {
-        return false;
+    if row[0] == 0 {
+        return blanks::blank2(row);
     }
     if !keys::key_below(row[0], counter) {
         return false;
