@@ -152,12 +152,15 @@ fn look(slots: &[u16; SLOTS], names: &[u32; ROWS], name: u32) -> u16
     0
 }
 
-// Whether a row has no name, or its name finds it.
+// Whether a row has no name, or its name finds it: most often in the slot that the name gives.
 fn found(slots: &[u16; SLOTS], names: &[u32; ROWS], i: usize) -> bool
     requires { ⌜ i < 8192 ⌝ }
     ensures { λ r. ⌜ r ≡ finds (now (slots .entry)) (now (names .entry)) i ⌝ }
 {
     if names[i] == 0 {
+        return true;
+    }
+    if slots[slot_of(names[i])] == (i + 1) as u16 {
         return true;
     }
     look(slots, names, names[i]) == (i + 1) as u16
