@@ -38,7 +38,7 @@ module _ (t : Table) (c d : ℕ) (r : List ℕ) (apart : joins c d r ≡ false) 
           let same : firstRow (joins c d) (set t (freeRow t - 1) r) ≡ firstRow (joins c d) t = first-set (joins c d) t (freeRow t - 1) r (apart ∙ sym old) in
           rw (ne-eqb (freeRow t) 0 nf, length-set t (freeRow t - 1) r, same)
 
-arc-apart : (m : Mesh) (a b e c d : ℕ) → (eqb a c && eqb b d) ≡ false → arcBetween (newArc m a b e .arcs) c d ≡ arcBetween (m .arcs) c d
+pub arc-apart : (m : Mesh) (a b e c d : ℕ) → (eqb a c && eqb b d) ≡ false → arcBetween (newArc m a b e .arcs) c d ≡ arcBetween (m .arcs) c d
 unfolding newArc
 arc-apart m a b e c d h = row-apart (m .arcs) c d (a ∷ b ∷ 0 ∷ 0 ∷ 0 ∷ e ∷ []) h
 
@@ -67,7 +67,7 @@ module _ (m : Mesh) (a b : ℕ) where
       go (yes z) = subst P (edge-made z) made
       go (no nz) = subst P (edge-there nz) here
 
-  insert-apart : (c d : ℕ) → sameTwo a b c d ≡ false → arcBetween (getOrInsertEdge m a b .arcs) c d ≡ arcBetween (m .arcs) c d
+  pub insert-apart : (c d : ℕ) → sameTwo a b c d ≡ false → arcBetween (getOrInsertEdge m a b .arcs) c d ≡ arcBetween (m .arcs) c d
   insert-apart c d h = either (λ n. arcBetween (n .arcs) c d ≡ arcBetween (m .arcs) c d) refl (edge-apart m a b c d h)
 
 -- ---- the edge of pair i, from a to b: one law for each way out of the code. x is the pair's arc
@@ -83,7 +83,7 @@ module _ (m : Mesh) (per : List ℕ) (i : ℕ) {n j a b : ℕ} (en : n ≡ lengt
   pair-searched e = e ∙ same-edge
 
   module _ {x : ℕ} (ex : x ≡ pairArc (m .arcs) per i) where
-    found : x ≡ arcBetween (m .arcs) a b
+    pub found : x ≡ arcBetween (m .arcs) a b
     unfolding pairArc
     found = ex ∙ rw (← ea, ← to-is)
 
@@ -112,8 +112,8 @@ may-next m o a b r e er =
 abbrev pub Telling : Table → List ℕ → List ℕ → ℕ → Type 0
 Telling arcs per xs i = (k : ℕ) → metBefore per i k ≡ false → getD xs k 0 ≡ pairArc arcs per k
 
-pub tells-first : (arcs : Table) (per : List ℕ) (xs : Links) → length per ≤ 64 → xs ≡ linksOf (arcsOf arcs per) → Telling arcs per (listOf xs) 0
-tells-first arcs per xs few e k q = ap (λ (l : List ℕ). getD l k 0) (arcs-held arcs per xs few e) ∙ pair-listed arcs per k
+pub tells-first : (arcs : Table) (per : List ℕ) (xs : Links) → listOf xs ≡ arcsOf arcs per → Telling arcs per (listOf xs) 0
+tells-first arcs per xs e k q = ap (λ (l : List ℕ). getD l k 0) e ∙ pair-listed arcs per k
 
 pub tells-more : (m o : Mesh) (per xs : List ℕ) (i : ℕ) → o ≡ edgeIn per i m → Telling (m .arcs) per xs i → Telling (o .arcs) per xs (i + 1)
 unfolding metBefore meets pairArc

@@ -1,3 +1,4 @@
 pub mod FoundOnce
 pub mod Apart
 pub mod Loops
+pub mod Told

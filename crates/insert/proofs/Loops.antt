@@ -17,7 +17,7 @@ use Rattle.rules.proofs.Scan.{upTo-more}
 use Rattle.rules.proofs.Places.{list-back}
 use Rattle.tables.specs.Sets.{over}
 use Rattle.pairs.specs.Pairs.{pairArc, arcsOf}
-use Rattle.pairs.proofs.Listed.{pair-listed, arcs-held}
+use Rattle.pairs.proofs.Listed.{pair-listed}
 use Rattle.insert.specs.Perimeter.{edgeIn, listFrom, listsFrom, interiorTo, interiorBy, exteriorTo, exteriorBy}
 use Rattle.insert.proofs.FoundOnce.{lists-are, list-at-place, put-face-by}
 
@@ -64,12 +64,11 @@ exterior-free edges out back x t t₁ t₂ o held eo eh h free before other afte
 -- ---- the whole insert, in the code's steps
 
 pub put-face-steps : (m : Mesh) (per : List ℕ) (lists : List (List ℕ)) (mark : ℕ) (v₁ a₁ e₁ : Table) (k₁ : List ℕ) (xs : Links) (x f : ℕ) (f₂ : Table) (k₂ : List ℕ) (a₂ a₃ : Table)
-    → length per ≤ 64 → mesh v₁ (m .positions) a₁ e₁ (m .faces) k₁ ≡ edgesIn per m → xs ≡ linksOf (arcsOf a₁ per) → x ≡ getD (listOf xs) 0 0 → f ≡ freeRow (m .faces)
+    → mesh v₁ (m .positions) a₁ e₁ (m .faces) k₁ ≡ edgesIn per m → listOf xs ≡ arcsOf a₁ per → x ≡ getD (listOf xs) 0 0 → f ≡ freeRow (m .faces)
     → mesh v₁ (m .positions) a₁ e₁ f₂ k₂ ≡ newFace (mesh v₁ (m .positions) a₁ e₁ (m .faces) k₁) x mark → a₂ ≡ interiorBy (listOf xs) f a₁ → a₃ ≡ exteriorBy e₁ lists (listOf xs) a₂
     → mesh v₁ (m .positions) a₃ e₁ f₂ k₂ ≡ putFace m per lists mark
-put-face-steps m per lists mark v₁ a₁ e₁ k₁ xs x f f₂ k₂ a₂ a₃ few edged found first free faced inside outside =
+put-face-steps m per lists mark v₁ a₁ e₁ k₁ xs x f f₂ k₂ a₂ a₃ edged held first free faced inside outside =
     let m₁ : Mesh = mesh v₁ (m .positions) a₁ e₁ (m .faces) k₁ in
-    let held : listOf xs ≡ arcsOf a₁ per = arcs-held a₁ per xs few found in
     let isx : x ≡ pairArc a₁ per 0 = first ∙ ap (λ (l : List ℕ). getD l 0 0) held ∙ pair-listed a₁ per 0 in
     let isa : a₃ ≡ exteriorBy e₁ lists (arcsOf a₁ per) (interiorBy (arcsOf a₁ per) (freeRow (m .faces)) a₁) = rw (outside, inside, held, free) in
     ap (λ (n : Mesh). with-arcs n a₃) faced

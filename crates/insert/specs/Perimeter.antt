@@ -24,6 +24,10 @@ pub record Asked (arcs edges : Table) (per : List ℕ) (i x : ℕ) (from : Lowes
   pub arcs-used : UsedBefore arcs (from .arc)
   pub edges-used : UsedBefore edges (from .edge)
 
+-- what is told of the arc of a pair whose edge is in: if it is not 0 it is that arc, and no pair before joins the same vertices
+abbrev pub Tells : Table → List ℕ → ℕ → ℕ → Type 0
+Tells arcs per i x = (x ≡ 0 → ⊥) → (metBefore per i i ≡ false) × (x ≡ pairArc arcs per i)
+
 -- lists as they were: from these first arcs, in tables as they were, of at most so many arcs
 unfoldable pub listFrom : Table → Table → ℕ → ℕ → List ℕ
 listFrom past pastedges bound x = walk (turnIn past pastedges) x bound x

@@ -34,8 +34,9 @@ pub fn put_face(
     ensures { λ _. ⌜ ((p : List (List Float)) → mesh (now (vertices .exit)) p (now (arcs .exit)) (now (edges .exit)) (now (faces .exit)) (now (counters .exit)) ≡ putFace (mesh (now (vertices .entry)) p (now (arcs .entry)) (now (edges .entry)) (now (faces .entry)) (now (counters .entry))) (listOf per) (listsFrom (now (past .entry)) (now (pastedges .entry)) bound (listOf leads)) mark) ⌝ }
 {
     lists::known_few(per);
-    perimeter::edges_in(vertices, arcs, edges, counters, per);
-    let xs = pairs::perimeter_arcs(arcs, per);
+    let before = pairs::perimeter_arcs(arcs, per);
+    let told = perimeter::edges_in(vertices, arcs, edges, counters, per, before);
+    let xs = perimeter::arcs_told(arcs, per, told);
     let face = edges::face::new_face(faces, counters, lists::item(xs, 0), mark);
     perimeter::interior(arcs, xs, face);
     perimeter::exterior(arcs, edges, past, pastedges, bound, leads, xs);

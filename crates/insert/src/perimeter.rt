@@ -12,15 +12,23 @@ use tables::links;
 use tables::rows;
 use walks::lists as vertexlists;
 ghost use mathlib.Core.Path.{_≡_};
+ghost use mathlib.Core.Bool.{false};
 ghost use mathlib.Core.List.{List, map};
 ghost use Prim.Native.Nat.{ℕ};
 ghost use lib.ListN.{getD};
 ghost use lib.Ieee.{Float};
-ghost use Rattle.rules.specs.Table.{Table, cell};
+ghost use Rattle.rules.specs.Table.{Table, cell, has};
 ghost use Rattle.rules.specs.Mesh.{mesh, linksOf, listOf};
 ghost use Rattle.rules.specs.Insert.{edgesIn};
 ghost use Rattle.edges.specs.Free.{UsedBefore};
-ghost use Rattle.insert.specs.Perimeter.{edgeIn, Asked, listFrom, listsFrom, interiorBy, exteriorTo, exteriorBy};
+ghost use Rattle.pairs.specs.Pairs.{arcsOf};
+ghost use Rattle.insert.specs.Perimeter.{edgeIn, Asked, Tells, listFrom, listsFrom, interiorBy, exteriorTo, exteriorBy};
+
+// The edge of a pair is in: from where the next one's rows may be looked for, and the pair's arc, 0 where it is not known.
+struct Edged {
+    from: Lowest,
+    arc: u32,
+}
 
 // The leading arcs of the perimeter's vertices.
 pub fn leading_arcs(vertices: &[VertexRow], per: Links) -> Links
@@ -37,6 +45,19 @@ pub fn leading_arcs(vertices: &[VertexRow], per: Links) -> Links
     Links { at, len: n }
 }
 
+// The first arc x of a new edge from a to b, where it is known to be the arc from a to b: not from none, and not from a vertex to itself.
+fn arc_known(x: u32, a: u32, b: u32) -> u32
+    ensures { λ r. ⌜ ((r ≡ 0 → ⊥) → (r ≡ x) × ((a ≡ 0 → ⊥) × (a ≡ b → ⊥))) ⌝ }
+{
+    if a == 0 {
+        return 0;
+    }
+    if a == b {
+        return 0;
+    }
+    x
+}
+
 // The edge of pair i is there, or is made: x is its arc as it was before the edges. That tells, unless a pair before joins the same vertices.
 fn edge_in(
     vertices: &mut [VertexRow],
@@ -47,43 +68,62 @@ fn edge_in(
     i: usize,
     x: u32,
     from: Lowest,
-) -> Lowest
+) -> Edged
     requires { ⌜ Asked (now arcs) (now edges) (listOf per) i x from ⌝ }
-    ensures { λ r. ⌜ ((p : List (List Float)) (f : Table) → mesh (now (vertices .exit)) p (now (arcs .exit)) (now (edges .exit)) f (now (counters .exit)) ≡ edgeIn (listOf per) i (mesh (now (vertices .entry)) p (now (arcs .entry)) (now (edges .entry)) f (now (counters .entry)))) × (UsedBefore (now (arcs .exit)) (r .arc) × UsedBefore (now (edges .exit)) (r .edge)) ⌝ }
+    ensures { λ r. ⌜ ((p : List (List Float)) (f : Table) → mesh (now (vertices .exit)) p (now (arcs .exit)) (now (edges .exit)) f (now (counters .exit)) ≡ edgeIn (listOf per) i (mesh (now (vertices .entry)) p (now (arcs .entry)) (now (edges .entry)) f (now (counters .entry)))) × ((UsedBefore (now (arcs .exit)) (r .from .arc) × UsedBefore (now (edges .exit)) (r .from .edge)) × Tells (now (arcs .exit)) (listOf per) i (r .arc)) ⌝ }
 {
     let n = lists::size(per);
     let a = lists::item(per, i);
     let b = lists::item(per, lists::place_after(n, i));
     if pairs::met_before(per, i) {
         edge::get_or_insert_edge(vertices, arcs, edges, counters, a, b);
-        return from;
+        return Edged { from, arc: 0 };
     }
     if x != 0 {
-        return from;
+        return Edged { from, arc: x };
     }
-    edge::new_edge_from(vertices, arcs, edges, counters, from, a, b)
+    let made = edge::new_edge_from(vertices, arcs, edges, counters, from, a, b);
+    let arc = arc_known(made.arc, a, b);
+    Edged { from: made, arc }
 }
 
-// The edges: each is there, or is made. The arcs that are there are found in one pass before.
+// The edges: each is there, or is made. xs are the arcs that are there before. The answer is the arcs after, 0 where one is not known.
 pub fn edges_in(
     vertices: &mut [VertexRow],
     arcs: &mut [ArcRow],
     edges: &mut [EdgeRow],
     counters: &mut [u32; 3],
     per: Links,
-)
-    ensures { λ _. ⌜ ((p : List (List Float)) (f : Table) → mesh (now (vertices .exit)) p (now (arcs .exit)) (now (edges .exit)) f (now (counters .exit)) ≡ edgesIn (listOf per) (mesh (now (vertices .entry)) p (now (arcs .entry)) (now (edges .entry)) f (now (counters .entry)))) ⌝ }
+    xs: Links,
+) -> Links
+    requires { ⌜ listOf xs ≡ arcsOf (now arcs) (listOf per) ⌝ }
+    ensures { λ r. ⌜ ((p : List (List Float)) (f : Table) → mesh (now (vertices .exit)) p (now (arcs .exit)) (now (edges .exit)) f (now (counters .exit)) ≡ edgesIn (listOf per) (mesh (now (vertices .entry)) p (now (arcs .entry)) (now (edges .entry)) f (now (counters .entry)))) × (has (listOf r) 0 ≡ false → listOf r ≡ arcsOf (now (arcs .exit)) (listOf per)) ⌝ }
 {
     let n = lists::size(per);
     lists::known_few(per);
-    let xs = pairs::perimeter_arcs(arcs, per);
+    let mut at = [0u32; RING];
     let mut from = Lowest { arc: 0, edge: 0 };
     let mut i: usize = 0;
     while i < n {
         let found = lists::item(xs, i);
-        from = edge_in(vertices, arcs, edges, counters, per, i, found, from);
+        let done = edge_in(vertices, arcs, edges, counters, per, i, found, from);
+        from = done.from;
+        at[i] = done.arc;
         i += 1;
     }
+    Links { at, len: n }
+}
+
+// The perimeter's arcs: those that are told, if every one is known; else they are looked for.
+pub fn arcs_told(arcs: &[ArcRow], per: Links, told: Links) -> Links
+    requires { ⌜ (has (listOf told) 0 ≡ false → listOf told ≡ arcsOf (now arcs) (listOf per)) ⌝ }
+    ensures { λ r. ⌜ listOf r ≡ arcsOf (now (arcs .entry)) (listOf per) ⌝ }
+{
+    lists::known_few(per);
+    if lists::has_from(told, 0, 0) {
+        return pairs::perimeter_arcs(arcs, per);
+    }
+    told
 }
 
 // The interior: link, then face, arc by arc.

@@ -1,5 +1,6 @@
 use Rattle.rules.specs.Mesh.{mesh, listOf}
 use Rattle.insert.specs.Perimeter.{listsFrom}
+use Rattle.pairs.proofs.Listed.{arcs-held}
 use Rattle.insert.proofs.Loops.{put-face-steps}
 use borrow.Author.Needs.{needs}
 use Rattle.insert.proofs.face.put_face.Statement.{statement}
@@ -8,11 +9,16 @@ use Rattle.insert.proofs.face.put_face.Tie as tie
 known-few-requires : tie.Need-known-few-requires
 known-few-requires c κs = search needs
 
-edges-in-requires : tie.Need-edges-in-requires
-edges-in-requires c κs = search needs
-
 perimeter-arcs-requires : tie.Need-perimeter-arcs-requires
 perimeter-arcs-requires c κs = search needs
+
+edges-in-requires : tie.Need-edges-in-requires
+edges-in-requires c κs =
+    let a = c .before .before .before .before .before .before .before .args in
+    arcs-held (a .arcs .now) (listOf (a .per)) (c .before .before .before .before .perimeter-arcs .result) (c .before .before .before .before .before .before .known-few .ensures) (c .before .before .before .before .perimeter-arcs .ensures)
+
+arcs-told-requires : tie.Need-arcs-told-requires
+arcs-told-requires c κs = c .before .before .before .before .edges-in .ensures .1
 
 item-requires : tie.Need-item-requires
 item-requires c κs = search needs
@@ -41,18 +47,19 @@ same-length-4 c = search needs
 returns : tie.Need-returns
 returns c =
     λ p.
-    let a = c .before .before .before .before .before .before .before .before .before .before .before .before .before .before .before .before .before .before .before .before .before .before .before .args in
+    let a = c .before .before .before .before .before .before .before .before .before .before .before .before .before .before .before .before .before .before .before .before .before .before .before .before .before .args in
     let e = c .before .before .before .before .before .before .before .before .before .before .before .before .before .before .before .before .before .edges-in in
     let n = c .before .before .before .before .before .before .before .before .new-face in
-    put-face-steps (mesh (a .vertices .now) p (a .arcs .now) (a .edges .now) (a .faces .now) (a .counters .now)) (listOf (a .per)) (listsFrom (a .past .now) (a .pastedges .now) (a .bound) (listOf (a .leads))) (a .mark) (e .last .0) (e .last .1 .0) (e .last .1 .1 .0) (e .last .1 .1 .1 .0) (c .before .before .before .before .before .before .before .before .before .before .before .before .perimeter-arcs .result) (c .before .before .before .before .before .before .before .before .before .item .result) (n .result) (n .last .0) (n .last .1 .0) (c .before .before .before .before .before .interior .last .0) (c .before .exterior .last .0) (c .before .before .before .before .before .before .before .before .before .before .before .before .before .before .before .before .before .before .before .before .before .before .known-few .ensures) (e .ensures p (a .faces .now)) (c .before .before .before .before .before .before .before .before .before .before .before .before .perimeter-arcs .ensures) (c .before .before .before .before .before .before .before .before .before .item .ensures) (n .ensures .0) (n .ensures .1 (e .last .0) p (e .last .1 .0) (e .last .1 .1 .0)) (c .before .before .before .before .before .interior .ensures) (c .before .exterior .ensures)
+    put-face-steps (mesh (a .vertices .now) p (a .arcs .now) (a .edges .now) (a .faces .now) (a .counters .now)) (listOf (a .per)) (listsFrom (a .past .now) (a .pastedges .now) (a .bound) (listOf (a .leads))) (a .mark) (e .last .0) (e .last .1 .0) (e .last .1 .1 .0) (e .last .1 .1 .1 .0) (c .before .before .before .before .before .before .before .before .before .before .before .before .arcs-told .result) (c .before .before .before .before .before .before .before .before .before .item .result) (n .result) (n .last .0) (n .last .1 .0) (c .before .before .before .before .before .interior .last .0) (c .before .exterior .last .0) (e .ensures .0 p (a .faces .now)) (c .before .before .before .before .before .before .before .before .before .before .before .before .arcs-told .ensures) (c .before .before .before .before .before .before .before .before .before .item .ensures) (n .ensures .0) (n .ensures .1 (e .last .0) p (e .last .1 .0) (e .last .1 .1 .0)) (c .before .before .before .before .before .interior .ensures) (c .before .exterior .ensures)
 
 pub put-face-spec : {M : Type 1} → statement M
 put-face-spec =
     tie.close
     (tie.spec
     known-few-requires
-    edges-in-requires
     perimeter-arcs-requires
+    edges-in-requires
+    arcs-told-requires
     item-requires
     new-face-requires
     interior-requires
