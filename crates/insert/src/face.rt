@@ -15,9 +15,36 @@ ghost use lib.ListN.{length};
 ghost use lib.Ieee.{Float};
 ghost use Rattle.rules.specs.Mesh.{mesh, listOf};
 ghost use Rattle.rules.specs.Insert.{putFace, listsOf};
+ghost use Rattle.pairs.specs.Pairs.{arcsOf};
 ghost use Rattle.insert.specs.Perimeter.{listsFrom};
 
-// The edges, the face with the first perimeter arc, the interior, then the exterior, by lists from these leading arcs.
+// The edges, the face with the first perimeter arc, the interior, then the exterior, by lists from these leading arcs. found are the perimeter's
+// arcs as they are.
+fn put_face_by(
+    vertices: &mut [VertexRow],
+    arcs: &mut [ArcRow],
+    edges: &mut [EdgeRow],
+    faces: &mut [FaceRow],
+    counters: &mut [u32; 3],
+    past: &[ArcRow],
+    pastedges: &[EdgeRow],
+    bound: usize,
+    leads: Links,
+    per: Links,
+    found: Links,
+    mark: u32,
+)
+    requires { ⌜ listOf found ≡ arcsOf (now arcs) (listOf per) ⌝ }
+    ensures { λ _. ⌜ ((p : List (List Float)) → mesh (now (vertices .exit)) p (now (arcs .exit)) (now (edges .exit)) (now (faces .exit)) (now (counters .exit)) ≡ putFace (mesh (now (vertices .entry)) p (now (arcs .entry)) (now (edges .entry)) (now (faces .entry)) (now (counters .entry))) (listOf per) (listsFrom (now (past .entry)) (now (pastedges .entry)) bound (listOf leads)) mark) ⌝ }
+{
+    let told = perimeter::edges_in(vertices, arcs, edges, counters, per, found);
+    let xs = perimeter::arcs_told(arcs, per, told);
+    let face = edges::face::new_face(faces, counters, lists::item(xs, 0), mark);
+    perimeter::interior(arcs, xs, face);
+    perimeter::exterior(arcs, edges, past, pastedges, bound, leads, xs);
+}
+
+// The same where the perimeter's arcs are still to be found.
 pub fn put_face(
     vertices: &mut [VertexRow],
     arcs: &mut [ArcRow],
@@ -34,15 +61,62 @@ pub fn put_face(
     ensures { λ _. ⌜ ((p : List (List Float)) → mesh (now (vertices .exit)) p (now (arcs .exit)) (now (edges .exit)) (now (faces .exit)) (now (counters .exit)) ≡ putFace (mesh (now (vertices .entry)) p (now (arcs .entry)) (now (edges .entry)) (now (faces .entry)) (now (counters .entry))) (listOf per) (listsFrom (now (past .entry)) (now (pastedges .entry)) bound (listOf leads)) mark) ⌝ }
 {
     lists::known_few(per);
-    let before = pairs::perimeter_arcs(arcs, per);
-    let told = perimeter::edges_in(vertices, arcs, edges, counters, per, before);
-    let xs = perimeter::arcs_told(arcs, per, told);
-    let face = edges::face::new_face(faces, counters, lists::item(xs, 0), mark);
-    perimeter::interior(arcs, xs, face);
-    perimeter::exterior(arcs, edges, past, pastedges, bound, leads, xs);
+    let found = pairs::perimeter_arcs(arcs, per);
+    put_face_by(
+        vertices,
+        arcs,
+        edges,
+        faces,
+        counters,
+        past,
+        pastedges,
+        bound,
+        leads,
+        per,
+        found,
+        mark,
+    );
 }
 
-// The insert of a perimeter that the checks let pass: the lists are taken first. The answer is the face's key.
+// The insert of a perimeter that the checks let pass: the lists are taken first. found are the perimeter's arcs.
+pub fn insert_by(
+    vertices: &mut [VertexRow],
+    arcs: &mut [ArcRow],
+    edges: &mut [EdgeRow],
+    faces: &mut [FaceRow],
+    counters: &mut [u32; 3],
+    past: &mut [ArcRow],
+    pastedges: &mut [EdgeRow],
+    per: Links,
+    found: Links,
+    mark: u32,
+)
+    requires { ⌜ (length (now past) ≡ length (now arcs)) × (length (now pastedges) ≡ length (now edges)) ⌝ }
+    requires { ⌜ listOf found ≡ arcsOf (now arcs) (listOf per) ⌝ }
+    ensures { λ _. ⌜ ((p : List (List Float)) → mesh (now (vertices .exit)) p (now (arcs .exit)) (now (edges .exit)) (now (faces .exit)) (now (counters .exit)) ≡ putFace (mesh (now (vertices .entry)) p (now (arcs .entry)) (now (edges .entry)) (now (faces .entry)) (now (counters .entry))) (listOf per) (listsOf (mesh (now (vertices .entry)) p (now (arcs .entry)) (now (edges .entry)) (now (faces .entry)) (now (counters .entry))) (listOf per)) mark) ⌝ }
+{
+    lists::known_few(per);
+    sets::copy6(past, arcs);
+    sets::copy3(pastedges, edges);
+    let bound = rows::count_used6(arcs);
+    let leads = perimeter::leading_arcs(vertices, per);
+    put_face_by(
+        vertices,
+        arcs,
+        edges,
+        faces,
+        counters,
+        past,
+        pastedges,
+        bound,
+        leads,
+        per,
+        found,
+        mark,
+    );
+}
+
+// The same where the perimeter's arcs are still to be found.
 pub fn insert_work(
     vertices: &mut [VertexRow],
     arcs: &mut [ArcRow],
@@ -58,11 +132,8 @@ pub fn insert_work(
     ensures { λ _. ⌜ ((p : List (List Float)) → mesh (now (vertices .exit)) p (now (arcs .exit)) (now (edges .exit)) (now (faces .exit)) (now (counters .exit)) ≡ putFace (mesh (now (vertices .entry)) p (now (arcs .entry)) (now (edges .entry)) (now (faces .entry)) (now (counters .entry))) (listOf per) (listsOf (mesh (now (vertices .entry)) p (now (arcs .entry)) (now (edges .entry)) (now (faces .entry)) (now (counters .entry))) (listOf per)) mark) ⌝ }
 {
     lists::known_few(per);
-    sets::copy6(past, arcs);
-    sets::copy3(pastedges, edges);
-    let bound = rows::count_used6(arcs);
-    let leads = perimeter::leading_arcs(vertices, per);
-    put_face(
+    let found = pairs::perimeter_arcs(arcs, per);
+    insert_by(
         vertices,
         arcs,
         edges,
@@ -70,9 +141,8 @@ pub fn insert_work(
         counters,
         past,
         pastedges,
-        bound,
-        leads,
         per,
+        found,
         mark,
     );
 }

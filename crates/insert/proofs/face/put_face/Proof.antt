@@ -1,8 +1,7 @@
-use Rattle.rules.specs.Mesh.{mesh, listOf}
-use Rattle.insert.specs.Perimeter.{listsFrom}
-use Rattle.pairs.proofs.Listed.{arcs-held}
-use Rattle.insert.proofs.Loops.{put-face-steps}
+-- `insert::face::put_face` meets its contract: the pass over the arcs, then the insert by what it found. Assumes nothing.
 use borrow.Author.Needs.{needs}
+use Rattle.rules.specs.Mesh.{listOf}
+use Rattle.pairs.proofs.Listed.{arcs-held}
 use Rattle.insert.proofs.face.put_face.Statement.{statement}
 use Rattle.insert.proofs.face.put_face.Tie as tie
 
@@ -12,45 +11,25 @@ known-few-requires c κs = search needs
 perimeter-arcs-requires : tie.Need-perimeter-arcs-requires
 perimeter-arcs-requires c κs = search needs
 
-edges-in-requires : tie.Need-edges-in-requires
-edges-in-requires c κs =
-    let a = c .before .before .before .before .before .before .before .args in
-    arcs-held (a .arcs .now) (listOf (a .per)) (c .before .before .before .before .perimeter-arcs .result) (c .before .before .before .before .before .before .known-few .ensures) (c .before .before .before .before .perimeter-arcs .ensures)
-
-arcs-told-requires : tie.Need-arcs-told-requires
-arcs-told-requires c κs = c .before .before .before .before .edges-in .ensures .1
-
-item-requires : tie.Need-item-requires
-item-requires c κs = search needs
-
-new-face-requires : tie.Need-new-face-requires
-new-face-requires c κs = search needs
-
-interior-requires : tie.Need-interior-requires
-interior-requires c κs = search needs
-
-exterior-requires : tie.Need-exterior-requires
-exterior-requires c κs = search needs
+put-face-by-requires : tie.Need-put-face-by-requires
+put-face-by-requires c κs =
+    let a = c .before .before .before .before .before .before .before .before .args in
+    arcs-held (a .arcs .now) (listOf (a .per)) (c .before .before .before .before .before .perimeter-arcs .result) (c .before .before .before .before .before .before .before .known-few .ensures) (c .before .before .before .before .before .perimeter-arcs .ensures)
 
 same-length : tie.Need-same-length
-same-length c = search needs
+same-length c = c .before .before .before .before .put-face-by .kept .0
 
 same-length-2 : tie.Need-same-length-2
-same-length-2 c = search needs
+same-length-2 c = c .before .before .before .before .put-face-by .kept .1 .0
 
 same-length-3 : tie.Need-same-length-3
-same-length-3 c = search needs
+same-length-3 c = c .before .before .before .before .put-face-by .kept .1 .1 .0
 
 same-length-4 : tie.Need-same-length-4
-same-length-4 c = search needs
+same-length-4 c = c .before .before .before .before .put-face-by .kept .1 .1 .1 .0
 
 returns : tie.Need-returns
-returns c =
-    λ p.
-    let a = c .before .before .before .before .before .before .before .before .before .before .before .before .before .before .before .before .before .before .before .before .before .before .before .before .before .args in
-    let e = c .before .before .before .before .before .before .before .before .before .before .before .before .before .before .before .before .before .edges-in in
-    let n = c .before .before .before .before .before .before .before .before .new-face in
-    put-face-steps (mesh (a .vertices .now) p (a .arcs .now) (a .edges .now) (a .faces .now) (a .counters .now)) (listOf (a .per)) (listsFrom (a .past .now) (a .pastedges .now) (a .bound) (listOf (a .leads))) (a .mark) (e .last .0) (e .last .1 .0) (e .last .1 .1 .0) (e .last .1 .1 .1 .0) (c .before .before .before .before .before .before .before .before .before .before .before .before .arcs-told .result) (c .before .before .before .before .before .before .before .before .before .item .result) (n .result) (n .last .0) (n .last .1 .0) (c .before .before .before .before .before .interior .last .0) (c .before .exterior .last .0) (e .ensures .0 p (a .faces .now)) (c .before .before .before .before .before .before .before .before .before .before .before .before .arcs-told .ensures) (c .before .before .before .before .before .before .before .before .before .item .ensures) (n .ensures .0) (n .ensures .1 (e .last .0) p (e .last .1 .0) (e .last .1 .1 .0)) (c .before .before .before .before .before .interior .ensures) (c .before .exterior .ensures)
+returns c = λ p. c .before .before .before .before .put-face-by .ensures p
 
 pub put-face-spec : {M : Type 1} → statement M
 put-face-spec =
@@ -58,12 +37,7 @@ put-face-spec =
     (tie.spec
     known-few-requires
     perimeter-arcs-requires
-    edges-in-requires
-    arcs-told-requires
-    item-requires
-    new-face-requires
-    interior-requires
-    exterior-requires
+    put-face-by-requires
     same-length
     same-length-2
     same-length-3

@@ -1,0 +1,60 @@
+use Rattle.rules.specs.Mesh.{mesh, listOf}
+use Rattle.insert.specs.Perimeter.{listsFrom}
+use Rattle.insert.proofs.Loops.{put-face-steps}
+use borrow.Author.Needs.{needs}
+use Rattle.insert.proofs.face.put_face_by.Statement.{statement}
+use Rattle.insert.proofs.face.put_face_by.Tie as tie
+
+edges-in-requires : tie.Need-edges-in-requires
+edges-in-requires c κs = c .before .before .before .before .pre
+
+arcs-told-requires : tie.Need-arcs-told-requires
+arcs-told-requires c κs = c .before .before .before .before .edges-in .ensures .1
+
+item-requires : tie.Need-item-requires
+item-requires c κs = search needs
+
+new-face-requires : tie.Need-new-face-requires
+new-face-requires c κs = search needs
+
+interior-requires : tie.Need-interior-requires
+interior-requires c κs = search needs
+
+exterior-requires : tie.Need-exterior-requires
+exterior-requires c κs = search needs
+
+same-length : tie.Need-same-length
+same-length c = search needs
+
+same-length-2 : tie.Need-same-length-2
+same-length-2 c = search needs
+
+same-length-3 : tie.Need-same-length-3
+same-length-3 c = search needs
+
+same-length-4 : tie.Need-same-length-4
+same-length-4 c = search needs
+
+returns : tie.Need-returns
+returns c =
+    λ p.
+    let a = c .before .before .before .before .before .before .before .before .before .before .before .before .before .before .before .before .before .before .before .before .before .before .args in
+    let e = c .before .before .before .before .before .before .before .before .before .before .before .before .before .before .before .before .before .edges-in in
+    let n = c .before .before .before .before .before .before .before .before .new-face in
+    put-face-steps (mesh (a .vertices .now) p (a .arcs .now) (a .edges .now) (a .faces .now) (a .counters .now)) (listOf (a .per)) (listsFrom (a .past .now) (a .pastedges .now) (a .bound) (listOf (a .leads))) (a .mark) (e .last .0) (e .last .1 .0) (e .last .1 .1 .0) (e .last .1 .1 .1 .0) (c .before .before .before .before .before .before .before .before .before .before .before .before .arcs-told .result) (c .before .before .before .before .before .before .before .before .before .item .result) (n .result) (n .last .0) (n .last .1 .0) (c .before .before .before .before .before .interior .last .0) (c .before .exterior .last .0) (e .ensures .0 p (a .faces .now)) (c .before .before .before .before .before .before .before .before .before .before .before .before .arcs-told .ensures) (c .before .before .before .before .before .before .before .before .before .item .ensures) (n .ensures .0) (n .ensures .1 (e .last .0) p (e .last .1 .0) (e .last .1 .1 .0)) (c .before .before .before .before .before .interior .ensures) (c .before .exterior .ensures)
+
+pub put-face-by-spec : {M : Type 1} → statement M
+put-face-by-spec =
+    tie.close
+    (tie.spec
+    edges-in-requires
+    arcs-told-requires
+    item-requires
+    new-face-requires
+    interior-requires
+    exterior-requires
+    same-length
+    same-length-2
+    same-length-3
+    same-length-4
+    returns)
