@@ -4,3 +4,4 @@ pub mod Bounds
 pub mod Stretches
 pub mod Splits
 pub mod Ends
+pub mod Named

@@ -17,7 +17,7 @@ use Rattle.rules.specs.Edit.{corners}
 use Rattle.rules.specs.Call.{given, byKeys}
 use Rattle.rules.proofs.Places.{list-back}
 use Rattle.pairs.specs.Pairs.{arcsOf}
-use Rattle.pairs.proofs.Listed.{arc-of-pair, arcs-past, arcs-held}
+use Rattle.pairs.proofs.Listed.{arc-of-pair, arcs-past}
 
 -- the arc of a pair, by the list of them
 pub arc-listed : (m : Mesh) (per : List ℕ) (xs : Links) (i x : ℕ) → listOf xs ≡ arcsOf (m .arcs) per → x ≡ getD (listOf xs) i 0 → x ≡ arcAt m per i
@@ -74,12 +74,6 @@ corners-size m x y = refl
 
 pub corners-back : (m : Mesh) (x y : ℕ) (l : Links) → l ≡ linksOf (corners m x y) → listOf l ≡ corners m x y
 corners-back m x y l e = ap listOf e ∙ list-back (corners m x y) (omega (arith, corners-size m x y))
-
--- the arcs of four corners' pairs, as the code holds them
-pub four-held : (arcs : Table) (four : List ℕ) (per xs : Links) → length four ≡ 4 → per ≡ linksOf four → xs ≡ linksOf (arcsOf arcs (listOf per)) → listOf xs ≡ arcsOf arcs four
-four-held arcs four per xs n ep ex =
-    let back : listOf per ≡ four = ap listOf ep ∙ list-back four (omega arith) in
-    arcs-held arcs four xs (omega arith) (ex ∙ ap (λ (l : List ℕ). linksOf (arcsOf arcs l)) back)
 
 -- what the caller gave is checked first, so a face insert has at most 64 keys
 pub given-few : (e : Edit) (keys : List ℕ) → given e keys ≡ true → (mark : ℕ) → e ≡ FaceInsert mark → length keys ≤ 64

@@ -16,9 +16,10 @@ ghost use Prim.Native.Nat.{ℕ};
 ghost use lib.ListN.{length};
 ghost use lib.Ieee.{Float};
 ghost use Rattle.rules.specs.Table.{Table, someBelow};
-ghost use Rattle.rules.specs.Mesh.{mesh, linksOf};
+ghost use Rattle.rules.specs.Mesh.{mesh, linksOf, listOf};
 ghost use Rattle.rules.specs.Insert.{hasFace};
 ghost use Rattle.rules.specs.Edit as Edit;
+ghost use Rattle.pairs.specs.Pairs.{arcsOf};
 
 // ---- the four corners
 
@@ -52,12 +53,10 @@ pub fn corner_list(four: [u32; 4]) -> Links
     Links { at, len: 4 }
 }
 
-// Whether an existing arc among their pairs has a face.
-pub fn corners_faced(arcs: &[ArcRow], four: [u32; 4]) -> bool
-    ensures { λ r. ⌜ ((vs : Table) (ps : List (List Float)) (es fs : Table) (ks : List ℕ) → r ≡ someBelow (hasFace (mesh vs ps (now (arcs .entry)) es fs ks) four) 4) ⌝ }
+// Whether an existing arc among the pairs of four corners has a face: xs are their arcs.
+pub fn corners_faced(arcs: &[ArcRow], xs: Links) -> bool
+    ensures { λ r. ⌜ ((vs : Table) (ps : List (List Float)) (es fs : Table) (ks four : List ℕ) → listOf xs ≡ arcsOf (now (arcs .entry)) four → r ≡ someBelow (hasFace (mesh vs ps (now (arcs .entry)) es fs ks) four) 4) ⌝ }
 {
-    known_four(four);
-    let xs = pairs::perimeter_arcs(arcs, corner_list(four));
     let mut i: usize = 0;
     while i < 4 {
         if insert::has_face(arcs, xs, i) {
@@ -70,8 +69,10 @@ pub fn corners_faced(arcs: &[ArcRow], four: [u32; 4]) -> bool
 
 // ---- the checks
 
-// Those of an arc bridge, and then of the insert of its corners.
-pub fn arc_bridge_checks(arcs: &[ArcRow], x: u32, y: u32) -> Answer
+// Those of an arc bridge, and then of the insert of its corners: xs are the arcs of their pairs.
+pub fn arc_bridge_checks_by(arcs: &[ArcRow], per: Links, xs: Links, x: u32, y: u32) -> Answer
+    requires { ⌜ ((vs : Table) (ps : List (List Float)) (es fs : Table) (ks : List ℕ) → listOf per ≡ Edit.corners (mesh vs ps (now arcs) es fs ks) x y) ⌝ }
+    requires { ⌜ listOf xs ≡ arcsOf (now arcs) (listOf per) ⌝ }
     ensures { λ r. ⌜ ((vs : Table) (ps : List (List Float)) (es fs : Table) (ks : List ℕ) → r ≡ Edit.arcBridgeChecks (mesh vs ps (now (arcs .entry)) es fs ks) x y) ⌝ }
 {
     if x == 0 {
@@ -80,12 +81,21 @@ pub fn arc_bridge_checks(arcs: &[ArcRow], x: u32, y: u32) -> Answer
     if y == 0 {
         return Answer::Refused(Refusal::TopologyNotFound);
     }
-    let four = corners_of(arcs, x, y);
-    if corners_faced(arcs, four) {
+    if corners_faced(arcs, xs) {
         return Answer::Refused(Refusal::TopologyConflict);
     }
+    insert::insert_checks_by(arcs, xs, per, per)
+}
+
+// The same where the arcs are still to be found.
+pub fn arc_bridge_checks(arcs: &[ArcRow], x: u32, y: u32) -> Answer
+    ensures { λ r. ⌜ ((vs : Table) (ps : List (List Float)) (es fs : Table) (ks : List ℕ) → r ≡ Edit.arcBridgeChecks (mesh vs ps (now (arcs .entry)) es fs ks) x y) ⌝ }
+{
+    let four = corners_of(arcs, x, y);
     let per = corner_list(four);
-    insert::insert_checks(arcs, per, per)
+    lists::known_few(per);
+    let xs = pairs::perimeter_arcs(arcs, per);
+    arc_bridge_checks_by(arcs, per, xs, x, y)
 }
 
 // Those of a bridge of two faces.

@@ -6,6 +6,7 @@ use rules::Answer;
 use rules::ArcRow;
 use rules::Links;
 use rules::Refusal;
+use tables::answers;
 use tables::rows;
 ghost use mathlib.Core.Path.{_≡_};
 ghost use mathlib.Core.Bool.{not, _&&_, cond};
@@ -13,7 +14,9 @@ ghost use mathlib.Core.List.{List};
 ghost use Prim.Native.Nat.{ℕ};
 ghost use lib.Dec.{eqb};
 ghost use lib.Ieee.{Float};
-ghost use Rattle.rules.specs.Table.{Table, cell};
+ghost use Rattle.rules.specs.declared.Answer.the-variants.{Done, Refused};
+ghost use Rattle.rules.specs.declared.Refusal.the-variants.{TopologyMalformed, TopologyNotFound};
+ghost use Rattle.rules.specs.Table.{Table, cell, has};
 ghost use Rattle.rules.specs.Mesh.{mesh, listOf};
 ghost use Rattle.rules.specs.Insert as Insert;
 ghost use Rattle.rules.specs.Call.{pairsWithout};
@@ -58,13 +61,12 @@ pub fn leads_back(arcs: &[ArcRow], xs: Links, per: Links, i: usize) -> bool
     lists::has_from(per, 0, rows::cell6(arcs, y, 1))
 }
 
-// Whether some pair has either.
-pub fn conflict(arcs: &[ArcRow], per: Links) -> bool
+// Whether some pair has either. xs are the arcs of the perimeter's pairs.
+pub fn conflict_by(arcs: &[ArcRow], xs: Links, per: Links) -> bool
+    requires { ⌜ listOf xs ≡ arcsOf (now arcs) (listOf per) ⌝ }
     ensures { λ r. ⌜ ((vs : Table) (ps : List (List Float)) (es fs : Table) (ks : List ℕ) → r ≡ Insert.conflict (mesh vs ps (now (arcs .entry)) es fs ks) (listOf per)) ⌝ }
 {
     let n = lists::size(per);
-    lists::known_few(per);
-    let xs = pairs::perimeter_arcs(arcs, per);
     let mut i: usize = 0;
     while i < n {
         if has_face(arcs, xs, i) {
@@ -78,9 +80,9 @@ pub fn conflict(arcs: &[ArcRow], per: Links) -> bool
     false
 }
 
-// All of them, in order. What names the vertices is a list of keys, or of links.
-pub fn insert_checks(arcs: &[ArcRow], names: Links, per: Links) -> Answer
-    ensures { λ r. ⌜ ((vs : Table) (ps : List (List Float)) (es fs : Table) (ks : List ℕ) → r ≡ Insert.insertChecks (mesh vs ps (now (arcs .entry)) es fs ks) (listOf names) (listOf per)) ⌝ }
+// The checks before any arc is looked for. What names the vertices is a list of keys, or of links.
+fn named(names: Links, per: Links) -> Answer
+    ensures { λ r. ⌜ r ≡ cond (Insert.malformed (listOf names)) (Refused TopologyMalformed) (cond (has (listOf per) 0) (Refused TopologyNotFound) Done) ⌝ }
 {
     let malformed = lists::is_malformed(names);
     let unknown = lists::has_from(per, 0, 0);
@@ -90,7 +92,35 @@ pub fn insert_checks(arcs: &[ArcRow], names: Links, per: Links) -> Answer
     if unknown {
         return Answer::Refused(Refusal::TopologyNotFound);
     }
-    if conflict(arcs, per) {
+    Answer::Done
+}
+
+// All of them, in order. xs are the arcs of the perimeter's pairs.
+pub fn insert_checks_by(arcs: &[ArcRow], xs: Links, names: Links, per: Links) -> Answer
+    requires { ⌜ listOf xs ≡ arcsOf (now arcs) (listOf per) ⌝ }
+    ensures { λ r. ⌜ ((vs : Table) (ps : List (List Float)) (es fs : Table) (ks : List ℕ) → r ≡ Insert.insertChecks (mesh vs ps (now (arcs .entry)) es fs ks) (listOf names) (listOf per)) ⌝ }
+{
+    let told = named(names, per);
+    if !answers::accepted(told) {
+        return told;
+    }
+    if conflict_by(arcs, xs, per) {
+        return Answer::Refused(Refusal::TopologyConflict);
+    }
+    Answer::Done
+}
+
+// The same where the arcs are still to be found: that waits for the checks before.
+pub fn insert_checks(arcs: &[ArcRow], names: Links, per: Links) -> Answer
+    ensures { λ r. ⌜ ((vs : Table) (ps : List (List Float)) (es fs : Table) (ks : List ℕ) → r ≡ Insert.insertChecks (mesh vs ps (now (arcs .entry)) es fs ks) (listOf names) (listOf per)) ⌝ }
+{
+    let told = named(names, per);
+    if !answers::accepted(told) {
+        return told;
+    }
+    lists::known_few(per);
+    let xs = pairs::perimeter_arcs(arcs, per);
+    if conflict_by(arcs, xs, per) {
         return Answer::Refused(Refusal::TopologyConflict);
     }
     Answer::Done

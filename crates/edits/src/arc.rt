@@ -22,6 +22,9 @@ ghost use Rattle.rules.specs.Step.{step};
 ghost use Rattle.rules.specs.Edit.{arcBridgeWork, arcBridge};
 ghost use Rattle.rules.specs.Extrude.{arcExtrudeWork};
 
+// The mark of a face that bridges.
+const NO_MARK: u32 = 0;
+
 // The insert of the four corners, behind its checks: the face's key.
 pub fn arc_bridge_work(
     vertices: &mut [VertexRow],
@@ -49,7 +52,7 @@ pub fn arc_bridge_work(
         past,
         pastedges,
         per,
-        0,
+        NO_MARK,
     );
     Answer::Key(key)
 }
@@ -69,11 +72,16 @@ pub fn arc_bridge(
     requires { ⌜ (length (now past) ≡ length (now arcs)) × (length (now pastedges) ≡ length (now edges)) ⌝ }
     ensures { λ r. ⌜ ((p : List (List Float)) → step (mesh (now (vertices .exit)) p (now (arcs .exit)) (now (edges .exit)) (now (faces .exit)) (now (counters .exit))) r ≡ arcBridge (mesh (now (vertices .entry)) p (now (arcs .entry)) (now (edges .entry)) (now (faces .entry)) (now (counters .entry))) x y) ⌝ }
 {
-    let check = checks::bridge::arc_bridge_checks(arcs, x, y);
+    let four = checks::bridge::corners_of(arcs, x, y);
+    let per = checks::bridge::corner_list(four);
+    lists::known_few(per);
+    let found = pairs::perimeter_arcs(arcs, per);
+    let check = checks::bridge::arc_bridge_checks_by(arcs, per, found, x, y);
     if !answers::accepted(check) {
         return check;
     }
-    arc_bridge_work(
+    let key = counters[2];
+    insert::face::insert_by(
         vertices,
         arcs,
         edges,
@@ -81,9 +89,11 @@ pub fn arc_bridge(
         counters,
         past,
         pastedges,
-        x,
-        y,
-    )
+        per,
+        found,
+        NO_MARK,
+    );
+    Answer::Key(key)
 }
 
 pub fn arc_extrude_work(

@@ -1,4 +1,4 @@
-// A face insert with its checks, as the other edits use it in mid-edit. Document 01's rule 5.
+// A face insert with its checks, as the other edits use it in mid-edit. Document 01's rule 5. The perimeter's arcs are found once, for both.
 
 use rules::Answer;
 use rules::ArcRow;
@@ -29,12 +29,14 @@ pub fn insert_face(
     requires { ⌜ (length (now past) ≡ length (now arcs)) × (length (now pastedges) ≡ length (now edges)) ⌝ }
     ensures { λ r. ⌜ ((p : List (List Float)) → step (mesh (now (vertices .exit)) p (now (arcs .exit)) (now (edges .exit)) (now (faces .exit)) (now (counters .exit))) r ≡ insertFace (mesh (now (vertices .entry)) p (now (arcs .entry)) (now (edges .entry)) (now (faces .entry)) (now (counters .entry))) (listOf per) mark) ⌝ }
 {
-    let check = checks::insert::insert_checks(arcs, per, per);
+    lists::known_few(per);
+    let found = pairs::perimeter_arcs(arcs, per);
+    let check = checks::insert::insert_checks_by(arcs, found, per, per);
     if !answers::accepted(check) {
         return check;
     }
     let key = counters[2];
-    insert::face::insert_work(
+    insert::face::insert_by(
         vertices,
         arcs,
         edges,
@@ -43,6 +45,7 @@ pub fn insert_face(
         past,
         pastedges,
         per,
+        found,
         mark,
     );
     Answer::Key(key)

@@ -1,44 +1,59 @@
--- `checks::insert::insert_checks` meets its contract. The tests in their order. Assumes nothing.
+-- `checks::insert::insert_checks` meets its contract. The tests in their order, in two halves; laws of Named. Assumes nothing.
 use borrow.Author.Needs.{needs}
+use borrow.Author.Tests.{not-true, not-false}
 use Rattle.checks.proofs.insert.insert_checks.Statement.{statement}
 use Rattle.checks.proofs.insert.insert_checks.Tie as tie
-use Prim.Native.Nat.{_-_}
 use mathlib.Core.Path.{sym, _∙_}
-use Rattle.rules.specs.Insert.{insertChecks}
+use mathlib.Core.Bool.{true, false}
+use Rattle.rules.specs.Mesh.{mesh, listOf}
+use Rattle.checks.proofs.Named.{named-refused, named-passed}
+use Rattle.pairs.proofs.Listed.{arcs-held}
 
-is-malformed-requires : tie.Need-is-malformed-requires
-is-malformed-requires c κs = search needs
+named-requires : tie.Need-named-requires
+named-requires c κs = search needs
 
-has-from-requires : tie.Need-has-from-requires
-has-from-requires c κs = search needs
+accepted-requires : tie.Need-accepted-requires
+accepted-requires c κs = search needs
 
 returns : tie.Need-returns
-unfolding insertChecks
-returns c = λ vs ps es fs ks. rw (sym (c .before .before .is-malformed .ensures) ∙ c .if1 .taken)
+returns c =
+    λ vs ps es fs ks.
+    let a = c .before .before .before .args in
+    let w = c .before .before .named in
+    named-refused (mesh vs ps (a .arcs .now) es fs ks) (listOf (a .names)) (listOf (a .per)) (w .result) (w .ensures) (sym (c .before .accepted .ensures) ∙ not-true _ (c .if1 .taken))
+
+known-few-requires : tie.Need-known-few-requires
+known-few-requires c κs = search needs
+
+perimeter-arcs-requires : tie.Need-perimeter-arcs-requires
+perimeter-arcs-requires c κs = search needs
+
+conflict-by-requires : tie.Need-conflict-by-requires
+conflict-by-requires c κs = let a = c .before .before .before .before .before .args in arcs-held (a .arcs .now) (listOf (a .per)) (c .perimeter-arcs .result) (c .before .known-few .ensures) (c .perimeter-arcs .ensures)
 
 returns-2 : tie.Need-returns-2
-unfolding insertChecks
-returns-2 c = λ vs ps es fs ks. rw (sym (c .before .before .before .is-malformed .ensures) ∙ c .before .if1 .left, sym (c .before .before .has-from .ensures) ∙ c .if2 .taken)
-
-conflict-requires : tie.Need-conflict-requires
-conflict-requires c κs = search needs
+returns-2 c =
+    λ vs ps es fs ks.
+    let a = c .before .before .before .before .before .before .before .args in
+    let w = c .before .before .before .before .before .before .named in
+    named-passed (mesh vs ps (a .arcs .now) es fs ks) (listOf (a .names)) (listOf (a .per)) (w .result) (w .ensures) true (sym (c .before .before .before .before .before .accepted .ensures) ∙ not-false _ (c .before .before .before .before .if1 .left)) (sym (c .if2 .taken) ∙ c .before .conflict-by .ensures vs ps es fs ks)
 
 returns-3 : tie.Need-returns-3
-unfolding insertChecks
-returns-3 c = λ vs ps es fs ks. rw (sym (c .before .before .before .before .before .is-malformed .ensures) ∙ c .before .before .before .if1 .left, sym (c .before .before .before .before .has-from .ensures) ∙ c .before .before .if2 .left, sym (c .before .conflict .ensures vs ps es fs ks) ∙ c .if3 .taken)
-
-returns-4 : tie.Need-returns-4
-unfolding insertChecks
-returns-4 c = λ vs ps es fs ks. rw (sym (c .before .before .before .before .before .is-malformed .ensures) ∙ c .before .before .before .if1 .left, sym (c .before .before .before .before .has-from .ensures) ∙ c .before .before .if2 .left, sym (c .before .conflict .ensures vs ps es fs ks) ∙ c .if3 .left)
+returns-3 c =
+    λ vs ps es fs ks.
+    let a = c .before .before .before .before .before .before .before .args in
+    let w = c .before .before .before .before .before .before .named in
+    named-passed (mesh vs ps (a .arcs .now) es fs ks) (listOf (a .names)) (listOf (a .per)) (w .result) (w .ensures) false (sym (c .before .before .before .before .before .accepted .ensures) ∙ not-false _ (c .before .before .before .before .if1 .left)) (sym (c .if2 .left) ∙ c .before .conflict-by .ensures vs ps es fs ks)
 
 pub insert-checks-spec : {M : Type 1} → statement M
 insert-checks-spec =
     tie.close
     (tie.spec
-    is-malformed-requires
-    has-from-requires
+    named-requires
+    accepted-requires
     returns
+    known-few-requires
+    perimeter-arcs-requires
+    conflict-by-requires
     returns-2
-    conflict-requires
-    returns-3
-    returns-4)
+    returns-3)

@@ -1,15 +1,42 @@
-use mathlib.Core.Path.{sym, _∙_}
+use mathlib.Core.Path.{_≡_, refl, ap, sym, _∙_}
+use lib.ListN.{getD}
 use borrow.Author.Tests.{not-true, not-false}
-use Rattle.rules.specs.Mesh.{Mesh, mesh}
+use Rattle.rules.specs.declared.Answer.the-variants.{Key}
+use Rattle.rules.specs.Mesh.{Mesh, mesh, linksOf, listOf}
 use Rattle.rules.specs.Step.{step}
 use Rattle.rules.specs.Edit.{arcBridge, arcBridgeChecks, arcBridgeWork}
+use Rattle.pairs.specs.Pairs.{arcsOf}
+use Rattle.pairs.proofs.Listed.{arcs-held}
+use Rattle.checks.proofs.Pairs.{corners-back}
 use Rattle.edits.proofs.Inserts.{checked-refused, checked-done}
+use Rattle.edits.proofs.Whole.{arc-bridged}
 use borrow.Author.Needs.{needs}
 use Rattle.edits.proofs.arc.arc_bridge.Statement.{statement}
 use Rattle.edits.proofs.arc.arc_bridge.Tie as tie
 
-arc-bridge-checks-requires : tie.Need-arc-bridge-checks-requires
-arc-bridge-checks-requires c κs = search needs
+corners-of-requires : tie.Need-corners-of-requires
+corners-of-requires c κs = search needs
+
+corner-list-requires : tie.Need-corner-list-requires
+corner-list-requires c κs = search needs
+
+known-few-requires : tie.Need-known-few-requires
+known-few-requires c κs = search needs
+
+perimeter-arcs-requires : tie.Need-perimeter-arcs-requires
+perimeter-arcs-requires c κs = search needs
+
+-- the arcs of the corners' pairs, as they are found
+held : (c : tie.After-perimeter-arcs) → let a = c .before .before .before .before .before .before .args in listOf (c .perimeter-arcs .result) ≡ arcsOf (a .arcs .now) (listOf (c .before .before .before .corner-list .result))
+held c =
+    let a = c .before .before .before .before .before .before .args in
+    arcs-held (a .arcs .now) (listOf (c .before .before .before .corner-list .result)) (c .perimeter-arcs .result) (c .before .before .known-few .ensures) (c .perimeter-arcs .ensures)
+
+arc-bridge-checks-by-requires : tie.Need-arc-bridge-checks-by-requires
+arc-bridge-checks-by-requires c κs =
+    let a = c .before .before .before .before .before .before .before .args in
+    let per = c .before .before .before .before .corner-list in
+    (λ vs ps es fs ks. corners-back (mesh vs ps (a .arcs .now) es fs ks) (a .x) (a .y) (per .result) (per .ensures ∙ ap linksOf (c .before .before .before .before .before .corners-of .ensures vs ps es fs ks)), held (c .before))
 
 accepted-requires : tie.Need-accepted-requires
 accepted-requires c κs = search needs
@@ -21,50 +48,63 @@ returns : tie.Need-returns
 unfolding arcBridge
 returns c =
     λ p.
-    let a = c .before .before .before .before .args in
+    let a = c .before .before .before .before .before .before .before .before .before .before .args in
     let m : Mesh = mesh (a .vertices .now) p (a .arcs .now) (a .edges .now) (a .faces .now) (a .counters .now) in
-    checked-refused m (arcBridgeWork m (a .x) (a .y)) (c .before .before .arc-bridge-checks .result) (arcBridgeChecks m (a .x) (a .y)) (c .before .before .arc-bridge-checks .ensures (a .vertices .now) p (a .edges .now) (a .faces .now) (a .counters .now)) (sym (c .before .accepted .ensures) ∙ not-true _ (c .if1 .taken))
+    let k = c .before .before .arc-bridge-checks-by in
+    checked-refused m (arcBridgeWork m (a .x) (a .y)) (k .result) (arcBridgeChecks m (a .x) (a .y)) (k .ensures (a .vertices .now) p (a .edges .now) (a .faces .now) (a .counters .now)) (sym (c .before .accepted .ensures) ∙ not-true _ (c .if1 .taken))
 
-arc-bridge-work-requires : tie.Need-arc-bridge-work-requires
-arc-bridge-work-requires c κs = c .before .before .before .before .before .before .before .before .before .before .before .pre
+element-copy-out-key : tie.Need-element-copy-out-key
+element-copy-out-key c = search needs
+
+insert-by-requires : tie.Need-insert-by-requires
+insert-by-requires c κs = (c .before .before .before .before .before .before .before .before .before .before .before .before .before .before .before .before .before .before .pre, held (c .before .before .before .before .before .before .before .before .before .before .before .before))
 
 same-length-2 : tie.Need-same-length-2
-same-length-2 c = c .before .before .before .before .before .before .arc-bridge-work .kept .0
+same-length-2 c = c .before .before .before .before .before .before .insert-by .kept .0
 
 same-length-3 : tie.Need-same-length-3
-same-length-3 c = c .before .before .before .before .before .before .arc-bridge-work .kept .1 .0
+same-length-3 c = c .before .before .before .before .before .before .insert-by .kept .1 .0
 
 same-length-4 : tie.Need-same-length-4
-same-length-4 c = c .before .before .before .before .before .before .arc-bridge-work .kept .1 .1 .0
+same-length-4 c = c .before .before .before .before .before .before .insert-by .kept .1 .1 .0
 
 same-length-5 : tie.Need-same-length-5
-same-length-5 c = c .before .before .before .before .before .before .arc-bridge-work .kept .1 .1 .1 .0
+same-length-5 c = c .before .before .before .before .before .before .insert-by .kept .1 .1 .1 .0
 
 same-length-6 : tie.Need-same-length-6
-same-length-6 c = c .before .before .before .before .before .before .arc-bridge-work .kept .1 .1 .1 .1 .1 .0
+same-length-6 c = c .before .before .before .before .before .before .insert-by .kept .1 .1 .1 .1 .1 .0
 
 same-length-7 : tie.Need-same-length-7
-same-length-7 c = c .before .before .before .before .before .before .arc-bridge-work .kept .1 .1 .1 .1 .1 .1 .0
+same-length-7 c = c .before .before .before .before .before .before .insert-by .kept .1 .1 .1 .1 .1 .1 .0
 
 returns-2 : tie.Need-returns-2
 unfolding arcBridge
 returns-2 c =
     λ p.
-    let a = c .before .before .before .before .before .before .before .before .before .before .before .before .before .before .before .before .before .before .args in
-    let g = c .before .before .before .before .before .before .arc-bridge-work in
+    let a = c .before .before .before .before .before .before .before .before .before .before .before .before .before .before .before .before .before .before .before .before .before .before .before .before .before .args in
+    let g = c .before .before .before .before .before .before .insert-by in
+    let k = c .before .before .before .before .before .before .before .before .before .before .before .before .before .before .before .before .before .arc-bridge-checks-by in
+    let four = c .before .before .before .before .before .before .before .before .before .before .before .before .before .before .before .before .before .before .before .before .before .before .before .corners-of in
+    let per = c .before .before .before .before .before .before .before .before .before .before .before .before .before .before .before .before .before .before .before .before .before .before .corner-list in
     let m : Mesh = mesh (a .vertices .now) p (a .arcs .now) (a .edges .now) (a .faces .now) (a .counters .now) in
     let m′ : Mesh = mesh (g .last .0) p (g .last .1 .0) (g .last .1 .1 .0) (g .last .1 .1 .1 .0) (g .last .1 .1 .1 .1 .0) in
-    checked-done m (arcBridgeWork m (a .x) (a .y)) (c .before .before .before .before .before .before .before .before .before .before .before .before .before .before .before .before .arc-bridge-checks .result) (arcBridgeChecks m (a .x) (a .y)) (step m′ (g .result)) (c .before .before .before .before .before .before .before .before .before .before .before .before .before .before .before .before .arc-bridge-checks .ensures (a .vertices .now) p (a .edges .now) (a .faces .now) (a .counters .now)) (sym (c .before .before .before .before .before .before .before .before .before .before .before .before .before .before .before .accepted .ensures) ∙ not-false _ (c .before .before .before .before .before .before .before .before .before .before .before .before .before .before .if1 .left)) (g .ensures p)
+    let done : step m′ (Key (getD (a .counters .now) 2 0)) ≡ arcBridgeWork m (a .x) (a .y) = arc-bridged m m′ (a .x) (a .y) (four .result) (per .result) (getD (a .counters .now) 2 0) (per .ensures) (four .ensures (a .vertices .now) p (a .edges .now) (a .faces .now) (a .counters .now)) refl (g .ensures p) in
+    checked-done m (arcBridgeWork m (a .x) (a .y)) (k .result) (arcBridgeChecks m (a .x) (a .y)) (step m′ (Key (getD (a .counters .now) 2 0))) (k .ensures (a .vertices .now) p (a .edges .now) (a .faces .now) (a .counters .now)) (sym (c .before .before .before .before .before .before .before .before .before .before .before .before .before .before .before .before .accepted .ensures) ∙ not-false _ (c .before .before .before .before .before .before .before .before .before .before .before .before .before .before .before .if1 .left)) done
 
 pub arc-bridge-spec : {M : Type 1} → statement M
 arc-bridge-spec =
     tie.close
     (tie.spec
-    arc-bridge-checks-requires
+    corners-of-requires
+    corner-list-requires
+    known-few-requires
+    perimeter-arcs-requires
+    arc-bridge-checks-by-requires
     accepted-requires
     same-length
     returns
-    arc-bridge-work-requires
+    element-copy-out-key
+    insert-by-requires
     same-length-2
     same-length-3
     same-length-4
