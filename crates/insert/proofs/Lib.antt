@@ -2,3 +2,4 @@ pub mod FoundOnce
 pub mod Apart
 pub mod Loops
 pub mod Told
+pub mod Rows

@@ -1,12 +1,14 @@
 -- Face insert as the code goes about it: the perimeter's arcs are found once, and every link is written by that list.
-use Prim.Native.Nat.{ℕ, _<_}
+use Prim.Native.Nat.{ℕ, _≤_, _<_}
 use mathlib.Core.Path.{_≡_}
-use mathlib.Core.Bool.{false, cond}
+use mathlib.Core.Bool.{Bool, true, false, cond}
 use mathlib.Core.List.{List, [], map}
 use lib.ListN.{length, getD}
 use lib.Dec.{eqb}
 use Rattle.rules.specs.Table.{Table, cell, put, upTo, after, orElse}
-use Rattle.rules.specs.Mesh.{Mesh, oppositeOf}
+use Rattle.rules.specs.declared.Ended.{Ended}
+use Rattle.rules.specs.declared.Ended.the-variants.{Closed, Open, Cut}
+use Rattle.rules.specs.Mesh.{Mesh, oppositeOf, placesOf}
 use Rattle.rules.specs.Link.{walk, turnIn, getOrInsertEdge}
 use Rattle.rules.specs.Insert.{facelessIn}
 use Rattle.edges.specs.declared.free.Lowest.{Lowest}
@@ -34,6 +36,20 @@ listFrom past pastedges bound x = walk (turnIn past pastedges) x bound x
 
 unfoldable pub listsFrom : Table → Table → ℕ → List ℕ → List (List ℕ)
 listsFrom past pastedges bound leads = map (listFrom past pastedges bound) leads
+
+-- a walk was cut off
+unfoldable pub isCut : Ended → Bool
+isCut Closed = false
+isCut Open = false
+isCut Cut = true
+
+-- a list of at most 64 links in a row of 64 places, 0 from its end on; and so many lists, each in its row
+pub record InRow (row l : List ℕ) : Type 0 where
+  pub few : length l ≤ 64
+  pub places : row ≡ placesOf l
+
+abbrev pub Taken : List (List ℕ) → List (List ℕ) → ℕ → Type 0
+Taken rows lists n = (k : ℕ) → k < n → InRow (getD rows k []) (getD lists k [])
 
 -- the interior at the arc x with y after it: link, then face
 unfoldable pub interiorTo : ℕ → ℕ → ℕ → Table → Table

@@ -1,16 +1,18 @@
 // A face insert whose checks have passed. Document 01's rule 5.
 
 use crate::perimeter;
+use crate::taken;
 use rules::ArcRow;
 use rules::EdgeRow;
 use rules::FaceRow;
 use rules::Links;
+use rules::RING;
 use rules::VertexRow;
 use tables::rows;
 use tables::sets;
 ghost use mathlib.Core.Path.{_≡_};
 ghost use mathlib.Core.List.{List};
-ghost use Prim.Native.Nat.{ℕ};
+ghost use Prim.Native.Nat.{ℕ, _≤_};
 ghost use lib.ListN.{length};
 ghost use lib.Ieee.{Float};
 ghost use Rattle.rules.specs.Mesh.{mesh, listOf};
@@ -78,8 +80,30 @@ pub fn put_face(
     );
 }
 
-// The insert of a perimeter that the checks let pass: the lists are taken first. found are the perimeter's arcs.
-pub fn insert_by(
+// The same by lists that are taken: each stands in its row.
+pub fn put_face_taken(
+    vertices: &mut [VertexRow],
+    arcs: &mut [ArcRow],
+    edges: &mut [EdgeRow],
+    faces: &mut [FaceRow],
+    counters: &mut [u32; 3],
+    rows: &[[u32; RING]],
+    per: Links,
+    found: Links,
+    mark: u32,
+)
+    requires { ⌜ (length (listOf per) ≤ length (now rows)) × (listOf found ≡ arcsOf (now arcs) (listOf per)) ⌝ }
+    ensures { λ _. ⌜ ((p : List (List Float)) → mesh (now (vertices .exit)) p (now (arcs .exit)) (now (edges .exit)) (now (faces .exit)) (now (counters .exit)) ≡ putFace (mesh (now (vertices .entry)) p (now (arcs .entry)) (now (edges .entry)) (now (faces .entry)) (now (counters .entry))) (listOf per) (now (rows .entry)) mark) ⌝ }
+{
+    let told = perimeter::edges_in(vertices, arcs, edges, counters, per, found);
+    let ring = perimeter::arcs_told(arcs, per, told);
+    let face = edges::face::new_face(faces, counters, lists::item(ring, 0), mark);
+    perimeter::interior(arcs, ring, face);
+    taken::exterior(arcs, edges, rows, ring);
+}
+
+// The insert by lists walked in copies of the tables: for lists that are not taken.
+fn insert_copied(
     vertices: &mut [VertexRow],
     arcs: &mut [ArcRow],
     edges: &mut [EdgeRow],
@@ -110,6 +134,54 @@ pub fn insert_by(
         pastedges,
         bound,
         leads,
+        per,
+        found,
+        mark,
+    );
+}
+
+// The insert of a perimeter that the checks let pass: the lists are taken first. found are the perimeter's arcs.
+pub fn insert_by(
+    vertices: &mut [VertexRow],
+    arcs: &mut [ArcRow],
+    edges: &mut [EdgeRow],
+    faces: &mut [FaceRow],
+    counters: &mut [u32; 3],
+    past: &mut [ArcRow],
+    pastedges: &mut [EdgeRow],
+    per: Links,
+    found: Links,
+    mark: u32,
+)
+    requires { ⌜ (length (now past) ≡ length (now arcs)) × (length (now pastedges) ≡ length (now edges)) ⌝ }
+    requires { ⌜ listOf found ≡ arcsOf (now arcs) (listOf per) ⌝ }
+    ensures { λ _. ⌜ ((p : List (List Float)) → mesh (now (vertices .exit)) p (now (arcs .exit)) (now (edges .exit)) (now (faces .exit)) (now (counters .exit)) ≡ putFace (mesh (now (vertices .entry)) p (now (arcs .entry)) (now (edges .entry)) (now (faces .entry)) (now (counters .entry))) (listOf per) (listsOf (mesh (now (vertices .entry)) p (now (arcs .entry)) (now (edges .entry)) (now (faces .entry)) (now (counters .entry))) (listOf per)) mark) ⌝ }
+{
+    lists::known_few(per);
+    let leads = perimeter::leading_arcs(vertices, per);
+    let mut rows = [[0u32; RING]; RING];
+    if taken::take_lists(arcs, edges, leads, &mut rows) {
+        put_face_taken(
+            vertices,
+            arcs,
+            edges,
+            faces,
+            counters,
+            &rows,
+            per,
+            found,
+            mark,
+        );
+        return;
+    }
+    insert_copied(
+        vertices,
+        arcs,
+        edges,
+        faces,
+        counters,
+        past,
+        pastedges,
         per,
         found,
         mark,

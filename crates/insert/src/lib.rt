@@ -1,6 +1,7 @@
 // Face insert on one set of tables, behind its checks. Document 01's rule 5.
-// The perimeter's arcs are found once. The lists of the perimeter's vertices are older than the edges, so they are walked in tables
-// kept as they were: past and pastedges.
+// The perimeter's arcs are found once, before the edges. The lists of the perimeter's vertices are older than the edges: they are taken into rows of
+// 64 links before; where one is longer, they are walked in tables kept as they were: past and pastedges.
 
 pub mod face;
 pub mod perimeter;
+pub mod taken;

@@ -1,9 +1,6 @@
-use mathlib.Core.Path.{ap, _∙_}
-use mathlib.Core.List.{List}
-use Prim.Native.Nat.{ℕ}
+-- `insert::face::insert_by` meets its contract: by the rows of the lists that are taken, or by copies of the tables. Assumes nothing.
 use Rattle.rules.specs.Mesh.{Mesh, mesh, listOf}
-use Rattle.rules.specs.Insert.{putFace}
-use Rattle.insert.proofs.Loops.{lists-taken}
+use Rattle.insert.proofs.Rows.{insert-taken}
 use borrow.Author.Needs.{needs}
 use Rattle.insert.proofs.face.insert_by.Statement.{statement}
 use Rattle.insert.proofs.face.insert_by.Tie as tie
@@ -11,20 +8,20 @@ use Rattle.insert.proofs.face.insert_by.Tie as tie
 known-few-requires : tie.Need-known-few-requires
 known-few-requires c κs = search needs
 
-copy6-requires : tie.Need-copy6-requires
-copy6-requires c κs = search needs
-
-copy3-requires : tie.Need-copy3-requires
-copy3-requires c κs = search needs
-
-count-used6-requires : tie.Need-count-used6-requires
-count-used6-requires c κs = search needs
-
 leading-arcs-requires : tie.Need-leading-arcs-requires
 leading-arcs-requires c κs = search needs
 
-put-face-by-requires : tie.Need-put-face-by-requires
-put-face-by-requires c κs = c .before .before .before .before .before .before .before .before .before .before .before .before .before .before .before .before .before .before .before .before .pre .1
+slice-aggregate-take-lists : tie.Need-slice-aggregate-take-lists
+slice-aggregate-take-lists c = search needs
+
+take-lists-requires : tie.Need-take-lists-requires
+take-lists-requires c κs = search needs
+
+slice-aggregate-put-face-taken : tie.Need-slice-aggregate-put-face-taken
+slice-aggregate-put-face-taken c = search needs
+
+put-face-taken-requires : tie.Need-put-face-taken-requires
+put-face-taken-requires c κs = search needs
 
 same-length : tie.Need-same-length
 same-length c = search needs
@@ -38,34 +35,60 @@ same-length-3 c = search needs
 same-length-4 : tie.Need-same-length-4
 same-length-4 c = search needs
 
+returns : tie.Need-returns
+returns c =
+    λ p.
+    let a = c .before .before .before .before .before .before .before .before .before .before .before .before .before .before .before .before .before .before .before .before .args in
+    let g = c .before .before .before .before .put-face-taken in
+    let t = c .before .before .before .before .before .before .before .before .before .before .before .before .before .take-lists in
+    let m : Mesh = mesh (a .vertices .now) p (a .arcs .now) (a .edges .now) (a .faces .now) (a .counters .now) in
+    let o : Mesh = mesh (g .last .0) p (g .last .1 .0) (g .last .1 .1 .0) (g .last .1 .1 .1 .0) (g .last .1 .1 .1 .1 .0) in
+    insert-taken m o (listOf (a .per)) (t .last .1 .1 .1 .0) (c .before .before .before .before .before .before .before .before .before .before .before .before .before .before .before .before .before .leading-arcs .result) (a .mark) (c .before .before .before .before .before .before .before .before .before .before .before .before .before .before .before .before .before .before .before .known-few .ensures) (c .before .before .before .before .before .before .before .before .before .before .before .before .before .before .before .before .before .leading-arcs .ensures) (t .ensures (c .before .before .before .before .before .before .before .before .before .before .before .if1 .taken)) (g .ensures p)
+
+insert-copied-requires : tie.Need-insert-copied-requires
+insert-copied-requires c κs = search needs
+
 same-length-5 : tie.Need-same-length-5
 same-length-5 c = search needs
 
 same-length-6 : tie.Need-same-length-6
 same-length-6 c = search needs
 
-returns : tie.Need-returns
-returns c =
-    λ p.
-    let s = c .before .before .before .before .before .before .before .before .before .before .before .before .before .before .before .before .before .before .before .before .before .before .before .before .before in
-    let a = s .args in
-    let m : Mesh = mesh (a .vertices .now) p (a .arcs .now) (a .edges .now) (a .faces .now) (a .counters .now) in
-    c .before .before .before .before .put-face-by .ensures p ∙ ap (λ (l : List (List ℕ)). putFace m (listOf (a .per)) l (a .mark)) (lists-taken m (listOf (a .per)) (a .past .now) (a .pastedges .now) (c .before .before .before .before .before .before .before .before .before .before .before .before .before .before .before .before .before .before .before .before .before .copy6 .last .0) (c .before .before .before .before .before .before .before .before .before .before .before .before .before .before .before .before .before .copy3 .last .0) (c .before .before .before .before .before .before .before .before .before .before .before .before .before .before .count-used6 .result) (c .before .before .before .before .before .before .before .before .before .before .before .before .leading-arcs .result) (c .before .before .before .before .before .before .before .before .before .before .before .before .before .before .before .before .before .before .before .before .before .before .before .before .known-few .ensures) (s .pre .0 .0) (s .pre .0 .1) (c .before .before .before .before .before .before .before .before .before .before .before .before .before .before .before .before .before .before .before .before .before .copy6 .ensures) (c .before .before .before .before .before .before .before .before .before .before .before .before .before .before .before .before .before .copy3 .ensures) (c .before .before .before .before .before .before .before .before .before .before .before .before .before .before .count-used6 .ensures) (c .before .before .before .before .before .before .before .before .before .before .before .before .leading-arcs .ensures))
+same-length-7 : tie.Need-same-length-7
+same-length-7 c = search needs
+
+same-length-8 : tie.Need-same-length-8
+same-length-8 c = search needs
+
+same-length-9 : tie.Need-same-length-9
+same-length-9 c = search needs
+
+same-length-10 : tie.Need-same-length-10
+same-length-10 c = search needs
+
+returns-2 : tie.Need-returns-2
+returns-2 c = search needs
 
 pub insert-by-spec : {M : Type 1} → statement M
 insert-by-spec =
     tie.close
     (tie.spec
     known-few-requires
-    copy6-requires
-    copy3-requires
-    count-used6-requires
     leading-arcs-requires
-    put-face-by-requires
+    slice-aggregate-take-lists
+    take-lists-requires
+    slice-aggregate-put-face-taken
+    put-face-taken-requires
     same-length
     same-length-2
     same-length-3
     same-length-4
+    returns
+    insert-copied-requires
     same-length-5
     same-length-6
-    returns)
+    same-length-7
+    same-length-8
+    same-length-9
+    same-length-10
+    returns-2)

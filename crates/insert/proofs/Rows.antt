@@ -1,0 +1,196 @@
+-- Lists in rows of 64 places, 0 from their end on: the search of a row, the exterior by rows, and the lists that are taken into them.
+use Prim.Native.Nat.{ℕ, zero, suc, _+_, _≤_, _<_}
+use native.Mathlib.Nat.{not-suc-le-zero}
+use native.Mathlib.Numerals.{add-one}
+use native.Mathlib.Omega.{arith}
+use native.Mathlib.Decide.{ℕ-discrete}
+use mathlib.Core.Path.{_≡_, refl, ap, sym, subst, _∙_}
+use mathlib.Core.Bool.{Bool, true, false, cond}
+use mathlib.Core.List.{List, [], _∷_, _++_, map}
+use lib.ListN.{length, getD, take, drop, set, replicate, drop-of-length-le, length-map}
+use lib.Seq.{drop-cons, getD-set-same, getD-set-other}
+use lib.Dec.{eqb}
+use borrow.Author.Tests.{eq-eqb, ne-eqb}
+use Rattle.rules.specs.declared.Links.{Links}
+use Rattle.rules.specs.declared.Ended.{Ended}
+use Rattle.rules.specs.declared.Ended.the-variants.{Closed, Open, Cut}
+use Rattle.rules.specs.declared.Walk.{Walk}
+use Rattle.rules.specs.Table.{Table, cell, upTo, after, freeRow, count, used}
+use Rattle.rules.specs.Mesh.{Mesh, with-arcs, oppositeOf, placesOf, linksOf, listOf}
+use Rattle.rules.specs.Link.{walk, walkEnded, walkOf, turnIn, arcCount}
+use Rattle.rules.specs.Insert.{facelessIn, edgesIn, newFace, putFace, listsOf}
+use Rattle.rules.proofs.Scan.{upTo-more}
+use Rattle.rules.proofs.Walks.{walk-none}
+use Rattle.rules.proofs.Places.{list-back}
+use Rattle.edges.proofs.Rings.{walk-length}
+use Rattle.pairs.specs.Pairs.{pairArc, arcsOf}
+use Rattle.pairs.proofs.Listed.{arcs-length}
+use Rattle.insert.specs.Perimeter.{listFrom, listsFrom, interiorBy, exteriorTo, exteriorBy, isCut, InRow, Taken}
+use Rattle.insert.proofs.FoundOnce.{lists-are, list-at-place, put-face-by}
+
+-- ---- the search of a row. What stands for an arc is given: itself, or its opposite
+
+module _ (arcs : Table) (g : ℕ → ℕ) (row : List ℕ) (j : ℕ) where
+  pub row-end : length row ≤ j → facelessIn arcs (map g (drop j row)) ≡ 0
+  unfolding facelessIn
+  row-end l = rw (drop-of-length-le row l)
+
+  module _ (l : j < length row) (x f : ℕ) (ex : x ≡ g (getD row j 0)) (ef : f ≡ cell arcs x 4) where
+    its-face : cell arcs (g (getD row j 0)) 4 ≡ f
+    its-face = sym (ef ∙ ap (λ (w : ℕ). cell arcs w 4) ex)
+
+    pub row-found : f ≡ 0 → facelessIn arcs (map g (drop j row)) ≡ x
+    unfolding facelessIn
+    row-found e = rw (drop-cons row j 0 l, eq-eqb _ _ (its-face ∙ e), ex)
+
+    pub row-next : (f ≡ 0 → ⊥) → facelessIn arcs (map g (drop j row)) ≡ facelessIn arcs (map g (drop (j + 1) row))
+    unfolding facelessIn
+    row-next e = rw (drop-cons row j 0 l, ne-eqb _ _ (λ q. e (sym its-face ∙ q)), add-one j)
+
+-- ---- a row has the same first arc without a face as its list
+
+module _ (t : Table) (g : ℕ → ℕ) (none : g 0 ≡ 0) where
+  padded : (n m : ℕ) → facelessIn t (map g (take n (replicate m 0))) ≡ 0
+  unfolding facelessIn cell
+  padded zero m = refl
+  padded (suc n) zero = refl
+  padded (suc n) (suc m) = rw none
+
+  same-first : (n m : ℕ) (l : List ℕ) → length l ≤ n → facelessIn t (map g (take n (l ++ replicate m 0))) ≡ facelessIn t (map g l)
+  unfolding facelessIn
+  same-first n m [] h = padded n m
+  same-first zero m (x ∷ xs) h = absurd (not-suc-le-zero h)
+  same-first (suc n) m (x ∷ xs) h = ap (λ (later : ℕ). cond (eqb (cell t (g x) 4) 0) (g x) later) (same-first n m xs (omega arith))
+
+  first-in-row : (row l : List ℕ) → InRow row l → facelessIn t (map g row) ≡ facelessIn t (map g l)
+  unfolding placesOf
+  first-in-row row l h = ap (λ (r : List ℕ). facelessIn t (map g r)) (h .places) ∙ same-first 64 64 l (h .few)
+
+pub map-itself : (l : List ℕ) → map (λ x. x) l ≡ l
+map-itself [] = refl
+map-itself (x ∷ xs) = ap {B = List ℕ} (λ r. x ∷ r) (map-itself xs)
+
+out-in-row : (t : Table) (row l : List ℕ) → InRow row l → facelessIn t row ≡ facelessIn t l
+out-in-row t row l h =
+    ap (facelessIn t) (sym (map-itself row)) ∙ first-in-row t (λ x. x) refl row l h ∙ ap (facelessIn t) (map-itself l)
+
+opposite-none : (t e : Table) → oppositeOf t e 0 ≡ 0
+unfolding oppositeOf cell
+opposite-none t e = refl
+
+-- ---- the exterior by rows is that by their lists
+
+exterior-same : (edges : Table) (out out′ back back′ : List ℕ) (x : ℕ) (t : Table) → InRow out out′ → InRow back back′ → exteriorTo edges out back x t ≡ exteriorTo edges out′ back′ x t
+unfolding exteriorTo
+exterior-same edges out out′ back back′ x t p q = rw (out-in-row t out out′ p, first-in-row t (oppositeOf t edges) (opposite-none t edges) back back′ q)
+
+upTo-same : (f g : ℕ → Table → Table) (n : ℕ) (t : Table) → ((i : ℕ) (u : Table) → i < n → f i u ≡ g i u) → upTo f n t ≡ upTo g n t
+unfolding upTo
+upTo-same f g zero t h = refl
+upTo-same f g (suc n) t h = ap (f n) (upTo-same f g n t (λ i u l. h i u (omega arith))) ∙ h n (upTo g n t) (omega arith)
+
+pub after-on : (n i : ℕ) → i < n → after n i < n
+after-on n i l = go (ℕ-discrete (i + 1) n)
+  where
+    go : Dec (i + 1 ≡ n) → cond (eqb (i + 1) n) 0 (i + 1) < n
+    go (yes e) = rw (eq-eqb (i + 1) n e) (omega arith)
+    go (no ne) = rw (ne-eqb (i + 1) n ne) (omega arith)
+
+exteriors-same : (edges : Table) (rows lists : List (List ℕ)) (xs : List ℕ) (t : Table) → Taken rows lists (length xs) → exteriorBy edges rows xs t ≡ exteriorBy edges lists xs t
+unfolding exteriorBy
+exteriors-same edges rows lists xs t h =
+    upTo-same (λ i u. exteriorTo edges (getD rows i []) (getD rows (after (length xs) i) []) (getD xs i 0) u) (λ i u. exteriorTo edges (getD lists i []) (getD lists (after (length xs) i) []) (getD xs i 0) u) (length xs) t
+    (λ i u l. exterior-same edges (getD rows i []) (getD lists i []) (getD rows (after (length xs) i) []) (getD lists (after (length xs) i) []) (getD xs i 0) u (h i l) (h (after (length xs) i) (after-on (length xs) i l)))
+
+-- one turn of the exterior's loop
+abbrev pub exteriorRow : Table → List (List ℕ) → List ℕ → ℕ → Table → Table
+exteriorRow edges rows xs i t = exteriorTo edges (getD rows i []) (getD rows (after (length xs) i) []) (getD xs i 0) t
+
+pub row-more : {t t₁ : Table} (t₀ edges : Table) (rows : List (List ℕ)) (xs : List ℕ) (i n j x : ℕ) → n ≡ length xs → j ≡ after n i → x ≡ getD xs i 0 → t ≡ upTo (exteriorRow edges rows xs) i t₀ → t₁ ≡ exteriorTo edges (getD rows i []) (getD rows j []) x t → t₁ ≡ upTo (exteriorRow edges rows xs) (i + 1) t₀
+row-more t₀ edges rows xs i n j x en ej ex et e = rw (upTo-more, ← et, e, ex, ej, en)
+
+-- the whole insert by rows
+put-same : (m : Mesh) (per : List ℕ) (rows lists : List (List ℕ)) (mark : ℕ) → Taken rows lists (length per) → putFace m per rows mark ≡ putFace m per lists mark
+put-same m per rows lists mark h =
+    let m₁ = edgesIn per m in
+    let m₂ = newFace m₁ (pairArc (m₁ .arcs) per 0) mark in
+    let xs = arcsOf (m₁ .arcs) per in
+    put-face-by m per rows mark
+    ∙ ap (λ (t : Table). with-arcs m₂ t) (exteriors-same (m₁ .edges) rows lists xs (interiorBy xs (freeRow (m₁ .faces)) (m₁ .arcs)) (subst (Taken rows lists) (sym (arcs-length (m₁ .arcs) per)) h))
+    ∙ sym (put-face-by m per lists mark)
+
+-- ---- lists that are taken
+
+-- a walk that was not cut off is the same under every bound that is no less than its length
+pub walk-same : (step : ℕ → ℕ) (first b c x : ℕ) → isCut (walkEnded step first b x) ≡ false → length (walk step first b x) ≤ c → walk step first c x ≡ walk step first b x
+unfolding walk walkEnded isCut
+walk-same step first zero c zero e l = walk-none step first c
+walk-same step first zero c (suc x) e l = let z : _≡_ {A = ℕ} 0 1 = ap (λ (t : Bool). cond t 0 1) e in absurd (omega arith)
+walk-same step first (suc b) c zero e l = walk-none step first c
+walk-same step first (suc b) zero (suc x) e l = absurd (not-suc-le-zero l)
+walk-same step first (suc b) (suc c) (suc x) e l = go (eqb (step (suc x)) first) e l (walk-same step first b c (step (suc x)))
+  where
+    y : ℕ
+    y = step (suc x)
+
+    go : (t : Bool) → isCut (cond t Closed (walkEnded step first b (step (suc x)))) ≡ false → length (suc x ∷ cond t [] (walk step first b (step (suc x)))) ≤ suc c → (isCut (walkEnded step first b (step (suc x))) ≡ false → length (walk step first b (step (suc x))) ≤ c → walk step first c (step (suc x)) ≡ walk step first b (step (suc x))) → suc x ∷ cond t [] (walk step first c (step (suc x))) ≡ suc x ∷ cond t [] (walk step first b (step (suc x)))
+    go true q k ih = refl
+    go false q k ih = ap {B = List ℕ} (λ r. suc x ∷ r) (ih q (omega arith))
+
+-- what the loop keeps of each row that is taken
+pub record Whole (step : ℕ → ℕ) (first : ℕ) (row : List ℕ) (longest : ℕ) : Type 0 where
+  pub places : row ≡ placesOf (walk step first 64 first)
+  pub ended : isCut (walkEnded step first 64 first) ≡ false
+  pub short : length (walk step first 64 first) ≤ longest
+
+abbrev pub Got : Table → Table → List ℕ → List (List ℕ) → ℕ → ℕ → Type 0
+Got arcs edges leads rows longest i = (k : ℕ) → k < i → Whole (turnIn arcs edges) (getD leads k 0) (getD rows k []) longest
+
+pub got-none : (arcs edges : Table) (leads : List ℕ) (rows : List (List ℕ)) (longest : ℕ) → Got arcs edges leads rows longest 0
+got-none arcs edges leads rows longest k l = absurd (not-suc-le-zero l)
+
+-- w is the walk of list i, from x
+pub got-more : (arcs edges : Table) (leads : List ℕ) (rows : List (List ℕ)) (longest i x : ℕ) (w : Walk) (longer : ℕ) → i < length rows → x ≡ getD leads i 0 → w ≡ walkOf (turnIn arcs edges) x 64 → isCut (w .ended) ≡ false → longest ≤ longer → w .links .len ≤ longer
+    → Got arcs edges leads rows longest i → Got arcs edges leads (set rows i (w .links .at)) longer (i + 1)
+unfolding walkOf linksOf
+got-more arcs edges leads rows longest i x w longer l ex ew ec g₁ g₂ h k q = go (ℕ-discrete k i)
+  where
+    step : ℕ → ℕ
+    step = turnIn arcs edges
+
+    is : w ≡ walkOf (turnIn arcs edges) (getD leads i 0) 64
+    is = ew ∙ ap (λ (y : ℕ). walkOf (turnIn arcs edges) y 64) ex
+
+    here : Whole (turnIn arcs edges) (getD leads i 0) (w .links .at) longer
+    here = record {
+      places = ap (λ (v : Walk). v .links .at) is;
+      ended = ap (λ (v : Walk). isCut (v .ended)) (sym is) ∙ ec;
+      short = omega (arith, ap (λ (v : Walk). v .links .len) is);
+    }
+
+    go : Dec (k ≡ i) → Whole (turnIn arcs edges) (getD leads k 0) (getD (set rows i (w .links .at)) k []) longer
+    go (yes e) = rw (e, getD-set-same rows i (w .links .at) [] l) here
+    go (no ne) =
+        let old = h k (omega arith) in
+        rw (getD-set-other rows i k (w .links .at) [] ne) (record { places = old .places; ended = old .ended; short = omega (arith, old .short) })
+
+-- at the loop's end, where the mesh has no fewer arcs than the longest
+pub got-all : (arcs edges : Table) (leads : List ℕ) (rows : List (List ℕ)) (longest n : ℕ) → n ≡ length leads → longest ≤ count used arcs → Got arcs edges leads rows longest n → Taken rows (listsFrom arcs edges (count used arcs) leads) (length leads)
+unfolding listFrom
+got-all arcs edges leads rows longest n en many h k l =
+    let g = h k (omega arith) in
+    let x = getD leads k 0 in
+    let step = turnIn arcs edges in
+    let same : getD (listsFrom arcs edges (count used arcs) leads) k [] ≡ walk (turnIn arcs edges) (getD leads k 0) 64 (getD leads k 0) = list-at-place arcs edges (count used arcs) leads k ∙ walk-same step x 64 (count used arcs) x (g .ended) (omega (arith, g .short)) in
+    record { few = rw same (walk-length step x 64 x); places = g .places ∙ ap placesOf (sym same) }
+
+-- an insert by the rows of the perimeter's lists
+pub insert-taken : (m o : Mesh) (per : List ℕ) (rows : List (List ℕ)) (leads : Links) (mark : ℕ) → length per ≤ 64 → leads ≡ linksOf (map (λ v. cell (m .vertices) v 1) per)
+    → Taken rows (listsFrom (m .arcs) (m .edges) (count used (m .arcs)) (listOf leads)) (length (listOf leads)) → o ≡ putFace m per rows mark → o ≡ putFace m per (listsOf m per) mark
+unfolding arcCount
+insert-taken m o per rows leads mark few el h e =
+    let back : listOf leads ≡ map (λ v. cell (m .vertices) v 1) per = ap listOf el ∙ list-back (map (λ v. cell (m .vertices) v 1) per) (omega (arith, length-map per (λ v. cell (m .vertices) v 1))) in
+    let lists : listsFrom (m .arcs) (m .edges) (count used (m .arcs)) (listOf leads) ≡ listsOf m per = rw back (sym (lists-are m per)) in
+    let many : length (listOf leads) ≡ length per = ap length back ∙ length-map per (λ v. cell (m .vertices) v 1) in
+    let taken : Taken rows (listsOf m per) (length per) = subst (Taken rows (listsOf m per)) many (subst (λ (l : List (List ℕ)). Taken rows l (length (listOf leads))) lists h) in
+    e ∙ put-same m per rows (listsOf m per) mark taken

@@ -1,0 +1,111 @@
+-- `insert::taken::take_lists` meets its contract. The loop keeps the lists of the leading arcs passed by; laws of Rows. Assumes nothing.
+use Prim.Native.Nat.{ℕ, _-_, _≤_, _<_}
+use native.Mathlib.Omega.{arith}
+use mathlib.Core.Path.{_≡_, refl, ap, sym, _∙_}
+use mathlib.Core.Bool.{Bool, true, false, cond}
+use lib.ListN.{length, length-set}
+use Rattle.rules.specs.Mesh.{listOf}
+use Rattle.insert.proofs.Rows.{Got, got-none, got-more, got-all}
+use borrow.Author.Needs.{needs}
+use Rattle.insert.proofs.taken.take_lists.Statement.{statement}
+use Rattle.insert.proofs.taken.take_lists.Tie as tie
+
+abbrev Inv-loop : tie.InvT-loop
+Inv-loop arcs edges leads rows₀ n longest₀ i₀ rows longest i = (i ≤ n) × ((length rows ≡ length rows₀) × Got arcs edges (listOf leads) rows longest i)
+
+abbrev μ-loop : tie.MeasureT-loop
+μ-loop arcs edges leads rows₀ n longest₀ i₀ rows longest i = n - i
+
+size-requires : tie.Need-size-requires Inv-loop μ-loop
+size-requires c κs = search needs
+
+known-few-requires : tie.Need-known-few-requires Inv-loop μ-loop
+known-few-requires c κs = search needs
+
+loop-holds : tie.Need-loop-holds Inv-loop μ-loop
+loop-holds c =
+    let a = c .before .before .args in
+    (search needs, (refl, got-none (a .arcs .now) (a .edges .now) (listOf (a .leads)) (a .rows .now) 0))
+
+item-requires : tie.Need-item-requires Inv-loop μ-loop
+item-requires c κs = search needs
+
+out-list-requires : tie.Need-out-list-requires Inv-loop μ-loop
+out-list-requires c κs = search needs
+
+cut-requires : tie.Need-cut-requires Inv-loop μ-loop
+cut-requires c κs = search needs
+
+same-length : tie.Need-same-length Inv-loop μ-loop
+same-length c = search needs
+
+returns : tie.Need-returns Inv-loop μ-loop
+returns c = λ e. let z : _≡_ {A = ℕ} 0 1 = ap (λ (t : Bool). cond t 1 0) e in absurd (omega arith)
+
+mul-at : tie.Need-mul-at Inv-loop μ-loop
+mul-at c = search needs
+
+slice-set-from-at : tie.Need-slice-set-from-at Inv-loop μ-loop
+slice-set-from-at c = omega (arith, c .before .before .before .before .before .before .before .before .before .before .pre, c .before .before .before .before .before .before .before .loop .inv .1 .0, c .before .before .before .before .before .before .before .before .known-few .ensures, c .before .before .before .before .before .before .before .before .before .size .ensures, c .before .before .before .before .before .before .loop-test .taken)
+
+greater-requires : tie.Need-greater-requires Inv-loop μ-loop
+greater-requires c κs = search needs
+
+add-i : tie.Need-add-i Inv-loop μ-loop
+add-i c = search needs
+
+loop-less : tie.Need-loop-less Inv-loop μ-loop
+loop-less c = search needs
+
+loop-again : tie.Need-loop-again Inv-loop μ-loop
+loop-again c =
+    let l = c .before .before .before .before .before .before .before .before in
+    let s = c .before .before .before .before .before .before .before .before .before .before .before in
+    let a = s .args in
+    let w = c .before .before .before .before .before .out-list in
+    let inside : l .loop .i < length (l .loop .rows) = omega (arith, s .pre, l .loop .inv .1 .0, c .before .before .before .before .before .before .before .before .before .known-few .ensures, c .before .before .before .before .before .before .before .before .before .before .size .ensures, c .before .before .before .before .before .before .before .loop-test .taken) in (
+      search needs,
+      (
+        length-set (l .loop .rows) (l .loop .i) (w .result .links .at) ∙ l .loop .inv .1 .0,
+        got-more (a .arcs .now) (a .edges .now) (listOf (a .leads)) (l .loop .rows) (l .loop .longest) (l .loop .i) (c .before .before .before .before .before .before .item .result) (w .result) (c .greater .result) inside (c .before .before .before .before .before .before .item .ensures) (w .ensures) (sym (c .before .before .before .before .cut .ensures) ∙ c .before .before .before .if1 .left) (c .greater .ensures .0) (c .greater .ensures .1) (l .loop .inv .1 .1),
+      ),
+    )
+
+used-at-least-requires : tie.Need-used-at-least-requires Inv-loop μ-loop
+used-at-least-requires c κs = search needs
+
+same-length-2 : tie.Need-same-length-2 Inv-loop μ-loop
+same-length-2 c = search needs
+
+returns-2 : tie.Need-returns-2 Inv-loop μ-loop
+returns-2 c =
+    λ whole.
+    let l = c .before .before in
+    let a = c .before .before .before .before .before .args in
+    let n = c .before .before .before .before .size in
+    let end : l .loop .i ≡ length (listOf (a .leads)) = omega (arith, n .ensures, c .before .loop-test .left, l .loop .inv .0) in
+    got-all (a .arcs .now) (a .edges .now) (listOf (a .leads)) (l .loop .rows) (l .loop .longest) (l .loop .i) end (c .used-at-least .ensures whole) (l .loop .inv .1 .1)
+
+pub take-lists-spec : {M : Type 1} → statement M
+take-lists-spec =
+    tie.close
+    (tie.spec
+    Inv-loop
+    μ-loop
+    size-requires
+    known-few-requires
+    loop-holds
+    item-requires
+    out-list-requires
+    cut-requires
+    same-length
+    returns
+    mul-at
+    slice-set-from-at
+    greater-requires
+    add-i
+    loop-less
+    loop-again
+    used-at-least-requires
+    same-length-2
+    returns-2)
