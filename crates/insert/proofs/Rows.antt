@@ -184,13 +184,20 @@ got-all arcs edges leads rows longest n en many h k l =
     let same : getD (listsFrom arcs edges (count used arcs) leads) k [] ≡ walk (turnIn arcs edges) (getD leads k 0) 64 (getD leads k 0) = list-at-place arcs edges (count used arcs) leads k ∙ walk-same step x 64 (count used arcs) x (g .ended) (omega (arith, g .short)) in
     record { few = rw same (walk-length step x 64 x); places = g .places ∙ ap placesOf (sym same) }
 
--- an insert by the rows of the perimeter's lists
-pub insert-taken : (m o : Mesh) (per : List ℕ) (rows : List (List ℕ)) (leads : Links) (mark : ℕ) → length per ≤ 64 → leads ≡ linksOf (map (λ v. cell (m .vertices) v 1) per)
-    → Taken rows (listsFrom (m .arcs) (m .edges) (count used (m .arcs)) (listOf leads)) (length (listOf leads)) → o ≡ putFace m per rows mark → o ≡ putFace m per (listsOf m per) mark
-unfolding arcCount
-insert-taken m o per rows leads mark few el h e =
-    let back : listOf leads ≡ map (λ v. cell (m .vertices) v 1) per = ap listOf el ∙ list-back (map (λ v. cell (m .vertices) v 1) per) (omega (arith, length-map per (λ v. cell (m .vertices) v 1))) in
-    let lists : listsFrom (m .arcs) (m .edges) (count used (m .arcs)) (listOf leads) ≡ listsOf m per = rw back (sym (lists-are m per)) in
-    let many : length (listOf leads) ≡ length per = ap length back ∙ length-map per (λ v. cell (m .vertices) v 1) in
-    let taken : Taken rows (listsOf m per) (length per) = subst (Taken rows (listsOf m per)) many (subst (λ (l : List (List ℕ)). Taken rows l (length (listOf leads))) lists h) in
-    e ∙ put-same m per rows (listsOf m per) mark taken
+-- the lists from the leading arcs of the perimeter's vertices are those of the mesh
+module _ (m : Mesh) (per : List ℕ) (rows : List (List ℕ)) (leads : Links) (few : length per ≤ 64) (el : leads ≡ linksOf (map (λ v. cell (m .vertices) v 1) per))
+    (h : Taken rows (listsFrom (m .arcs) (m .edges) (count used (m .arcs)) (listOf leads)) (length (listOf leads))) where
+  taken-lists : Taken rows (listsOf m per) (length per)
+  unfolding arcCount
+  taken-lists =
+      let back : listOf leads ≡ map (λ v. cell (m .vertices) v 1) per = ap listOf el ∙ list-back (map (λ v. cell (m .vertices) v 1) per) (omega (arith, length-map per (λ v. cell (m .vertices) v 1))) in
+      let lists : listsFrom (m .arcs) (m .edges) (count used (m .arcs)) (listOf leads) ≡ listsOf m per = rw back (sym (lists-are m per)) in
+      let many : length (listOf leads) ≡ length per = ap length back ∙ length-map per (λ v. cell (m .vertices) v 1) in
+      subst (Taken rows (listsOf m per)) many (subst (λ (l : List (List ℕ)). Taken rows l (length (listOf leads))) lists h)
+
+  -- an insert by their rows, also into another mesh
+  pub taken-put : (n : Mesh) (mark : ℕ) → putFace n per rows mark ≡ putFace n per (listsOf m per) mark
+  taken-put n mark = put-same n per rows (listsOf m per) mark taken-lists
+
+  pub insert-taken : (o : Mesh) (mark : ℕ) → o ≡ putFace m per rows mark → o ≡ putFace m per (listsOf m per) mark
+  insert-taken o mark e = e ∙ taken-put m mark

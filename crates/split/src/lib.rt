@@ -7,22 +7,26 @@ use rules::ArcRow;
 use rules::EdgeRow;
 use rules::FaceRow;
 use rules::Links;
+use rules::RING;
 use rules::VertexRow;
 use tables::answers;
 use tables::rows;
 use tables::sets;
 ghost use mathlib.Core.Path.{_≡_};
+ghost use mathlib.Core.Bool.{true};
 ghost use mathlib.Core.List.{List};
-ghost use Prim.Native.Nat.{ℕ};
+ghost use Prim.Native.Nat.{ℕ, _≤_};
 ghost use lib.ListN.{length};
 ghost use lib.Ieee.{Float};
+ghost use Rattle.rules.specs.Table.{count, used};
 ghost use Rattle.rules.specs.Mesh.{mesh, listOf};
 ghost use Rattle.rules.specs.Step.{step};
 ghost use Rattle.rules.specs.Insert.{putFace, listsOf};
 ghost use Rattle.rules.specs.Edit.{splitWork};
+ghost use Rattle.insert.specs.Perimeter.{listsFrom, Taken};
 
-// Both halves put in by lists as they are now: left first.
-fn halves_in(
+// Both halves put in by lists walked in copies of the tables: left first.
+fn halves_copied(
     vertices: &mut [VertexRow],
     arcs: &mut [ArcRow],
     edges: &mut [EdgeRow],
@@ -68,6 +72,105 @@ fn halves_in(
         others,
         right,
         0,
+    );
+}
+
+// The lists of both halves' vertices into rows, and whether all are whole.
+fn both_taken(
+    arcs: &[ArcRow],
+    edges: &[EdgeRow],
+    leads: Links,
+    seconds: Links,
+    ours: &mut [[u32; RING]],
+    theirs: &mut [[u32; RING]],
+) -> bool
+    requires { ⌜ (length (now ours) ≡ 64) × (length (now theirs) ≡ 64) ⌝ }
+    ensures { λ r. ⌜ (r ≡ true → Taken (now (ours .exit)) (listsFrom (now (arcs .entry)) (now (edges .entry)) (count used (now (arcs .entry))) (listOf leads)) (length (listOf leads)) × Taken (now (theirs .exit)) (listsFrom (now (arcs .entry)) (now (edges .entry)) (count used (now (arcs .entry))) (listOf seconds)) (length (listOf seconds))) ⌝ }
+{
+    if !insert::taken::take_lists(arcs, edges, leads, ours) {
+        return false;
+    }
+    insert::taken::take_lists(arcs, edges, seconds, theirs)
+}
+
+// Both halves put in by lists that are taken: left first.
+fn halves_taken(
+    vertices: &mut [VertexRow],
+    arcs: &mut [ArcRow],
+    edges: &mut [EdgeRow],
+    faces: &mut [FaceRow],
+    counters: &mut [u32; 3],
+    ours: &[[u32; RING]],
+    theirs: &[[u32; RING]],
+    left: Links,
+    right: Links,
+)
+    requires { ⌜ (length (listOf left) ≤ length (now ours)) × (length (listOf right) ≤ length (now theirs)) ⌝ }
+    ensures { λ _. ⌜ ((p : List (List Float)) → mesh (now (vertices .exit)) p (now (arcs .exit)) (now (edges .exit)) (now (faces .exit)) (now (counters .exit)) ≡ putFace (putFace (mesh (now (vertices .entry)) p (now (arcs .entry)) (now (edges .entry)) (now (faces .entry)) (now (counters .entry))) (listOf left) (now (ours .entry)) 0) (listOf right) (now (theirs .entry)) 0) ⌝ }
+{
+    lists::known_few(left);
+    lists::known_few(right);
+    let first = pairs::perimeter_arcs(arcs, left);
+    insert::face::put_face_taken(vertices, arcs, edges, faces, counters, ours, left, first, 0);
+    let second = pairs::perimeter_arcs(arcs, right);
+    insert::face::put_face_taken(
+        vertices,
+        arcs,
+        edges,
+        faces,
+        counters,
+        theirs,
+        right,
+        second,
+        0,
+    );
+}
+
+// Both halves put in by lists as they are now: left first.
+fn halves_in(
+    vertices: &mut [VertexRow],
+    arcs: &mut [ArcRow],
+    edges: &mut [EdgeRow],
+    faces: &mut [FaceRow],
+    counters: &mut [u32; 3],
+    past: &mut [ArcRow],
+    pastedges: &mut [EdgeRow],
+    left: Links,
+    right: Links,
+)
+    requires { ⌜ (length (now past) ≡ length (now arcs)) × (length (now pastedges) ≡ length (now edges)) ⌝ }
+    ensures { λ _. ⌜ ((p : List (List Float)) → mesh (now (vertices .exit)) p (now (arcs .exit)) (now (edges .exit)) (now (faces .exit)) (now (counters .exit)) ≡ putFace (putFace (mesh (now (vertices .entry)) p (now (arcs .entry)) (now (edges .entry)) (now (faces .entry)) (now (counters .entry))) (listOf left) (listsOf (mesh (now (vertices .entry)) p (now (arcs .entry)) (now (edges .entry)) (now (faces .entry)) (now (counters .entry))) (listOf left)) 0) (listOf right) (listsOf (mesh (now (vertices .entry)) p (now (arcs .entry)) (now (edges .entry)) (now (faces .entry)) (now (counters .entry))) (listOf right)) 0) ⌝ }
+{
+    lists::known_few(left);
+    lists::known_few(right);
+    let leads = insert::perimeter::leading_arcs(vertices, left);
+    let seconds = insert::perimeter::leading_arcs(vertices, right);
+    let mut ours = [[0u32; RING]; RING];
+    let mut theirs = [[0u32; RING]; RING];
+    if both_taken(arcs, edges, leads, seconds, &mut ours, &mut theirs) {
+        halves_taken(
+            vertices,
+            arcs,
+            edges,
+            faces,
+            counters,
+            &ours,
+            &theirs,
+            left,
+            right,
+        );
+        return;
+    }
+    halves_copied(
+        vertices,
+        arcs,
+        edges,
+        faces,
+        counters,
+        past,
+        pastedges,
+        left,
+        right,
     );
 }
 

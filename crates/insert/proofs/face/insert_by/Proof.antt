@@ -43,7 +43,7 @@ returns c =
     let t = c .before .before .before .before .before .before .before .before .before .before .before .before .before .take-lists in
     let m : Mesh = mesh (a .vertices .now) p (a .arcs .now) (a .edges .now) (a .faces .now) (a .counters .now) in
     let o : Mesh = mesh (g .last .0) p (g .last .1 .0) (g .last .1 .1 .0) (g .last .1 .1 .1 .0) (g .last .1 .1 .1 .1 .0) in
-    insert-taken m o (listOf (a .per)) (t .last .1 .1 .1 .0) (c .before .before .before .before .before .before .before .before .before .before .before .before .before .before .before .before .before .leading-arcs .result) (a .mark) (c .before .before .before .before .before .before .before .before .before .before .before .before .before .before .before .before .before .before .before .known-few .ensures) (c .before .before .before .before .before .before .before .before .before .before .before .before .before .before .before .before .before .leading-arcs .ensures) (t .ensures (c .before .before .before .before .before .before .before .before .before .before .before .if1 .taken)) (g .ensures p)
+    insert-taken m (listOf (a .per)) (t .last .1 .1 .1 .0) (c .before .before .before .before .before .before .before .before .before .before .before .before .before .before .before .before .before .leading-arcs .result) (c .before .before .before .before .before .before .before .before .before .before .before .before .before .before .before .before .before .before .before .known-few .ensures) (c .before .before .before .before .before .before .before .before .before .before .before .before .before .before .before .before .before .leading-arcs .ensures) (t .ensures (c .before .before .before .before .before .before .before .before .before .before .before .if1 .taken)) o (a .mark) (g .ensures p)
 
 insert-copied-requires : tie.Need-insert-copied-requires
 insert-copied-requires c κs = search needs
