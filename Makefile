@@ -41,7 +41,8 @@ run: target/bin/meshrun
 	@$(RUN) target/bin/meshrun < '$(SCRIPT)'
 
 # A program is proved, with all that it stands on, before it is built.
-target/bin/%: crates.txt $(shell find crates -name '*.rt' -o -name '*.antt')
+SOURCES := crates.txt $(shell find crates -name '*.rt' -o -name '*.antt')
+target/bin/%: $(SOURCES)
 	@$(needs_rt)
 	@echo 'proving and building $* (long, the first time)' >&2
 	@rt check $* >&2
@@ -76,12 +77,15 @@ LIB ?=
 ARCHIVE = $(if $(LIB),$(abspath $(LIB)),$(CURDIR)/target/lib/libullarvesp.a)
 CARGO = ULLARVESP_LIB='$(ARCHIVE)' CARGO_TARGET_DIR='$(CURDIR)/target/rust' cargo
 
-lib:
+lib: target/lib/libullarvesp.a
+	@echo 'target/lib/libullarvesp.a: proved, and compiled for x86-64 Linux'
+
+target/lib/libullarvesp.a: $(SOURCES)
 	@$(needs_rt)
+	@echo 'proving and compiling the library (long, the first time)' >&2
 	@mkdir -p target/lib
 	@rt staticlib calls > target/lib.log 2>&1 || { cat target/lib.log; exit 1; }
-	@cp target/staticlib/libcalls.a target/lib/libullarvesp.a
-	@echo 'target/lib/libullarvesp.a: proved, and compiled for x86-64 Linux'
+	@cp target/staticlib/libcalls.a $@
 
 # The archive to link: the one given, or ours where it can run.
 archive:
@@ -108,11 +112,15 @@ rusttest: archive $(ORACLE_BUILD)/oracle
 	@ORACLE_BIN='$(ORACLE_BUILD)/oracle' ORACLE_CASES='$(abspath $(ORACLE))/cases' \
 	  $(CARGO) test --offline --manifest-path rust/Cargo.toml -- --nocapture
 
+target/staticlib/libtablebench.a: $(SOURCES)
+	@$(needs_rt)
+	@rt staticlib tablebench > target/bench.log 2>&1 || { cat target/bench.log; exit 1; }
+
 # BENCH_MS: the milliseconds spent on each figure (bench/src/main.rs). The leaves are timed with our own archive alone.
 bench: archive $(ORACLE_BUILD)/oracle
 	@$(needs_cc)
 	@if [ -z '$(LIB)' ]; then \
-	  rt staticlib tablebench > target/bench.log 2>&1 || { cat target/bench.log; exit 1; }; \
+	  $(MAKE) --no-print-directory target/staticlib/libtablebench.a || exit 1; \
 	  $(CC) -O2 -o target/bench-tables bench/tables.c target/staticlib/libtablebench.a && target/bench-tables && echo; fi
 	@ln -sfn '$(ORACLE_BUILD)/tree' target/plexus
 	@$(CARGO) run --quiet --release --offline --manifest-path bench/Cargo.toml
