@@ -22,7 +22,7 @@ use Rattle.sound.specs.Parts.{below, verticesSound, positionsSound, edge
 
 -- ---- two tests of each row are one
 
-all-and : (p q : ℕ → Bool) (n : ℕ) → (allBelow p n && allBelow q n) ≡ allBelow (λ i. p i && q i) n
+pub all-and : (p q : ℕ → Bool) (n : ℕ) → (allBelow p n && allBelow q n) ≡ allBelow (λ i. p i && q i) n
 unfolding allBelow
 all-and p q zero = refl
 all-and p q (suc n) = go (allBelow p n) (allBelow q n) (p n) (q n) ∙ ap (λ (b : Bool). b && (p n && q n)) (all-and p q n)
@@ -48,7 +48,7 @@ and-assoc false b c = refl
 -- ---- each clause
 
 module _ (m : Mesh) where
-  both-arcs : bothArcs m ≡ allBelow (λ i. bothRow (m .arcs) (getD (m .edges) i []) (i + 1)) (length (m .edges))
+  pub both-arcs : bothArcs m ≡ allBelow (λ i. bothRow (m .arcs) (getD (m .edges) i []) (i + 1)) (length (m .edges))
   unfolding bothArcs hasBothArcs bothRow
   both-arcs = simp cell-row
 
@@ -76,7 +76,7 @@ module _ (m : Mesh) where
   unfolding allFinite
   all-finite = every-all finiteRow (m .positions) []
 
-unused-zero : (t : Table) → unusedZero t ≡ allBelow (λ i. blankRow (getD t i [])) (length t)
+pub unused-zero : (t : Table) → unusedZero t ≡ allBelow (λ i. blankRow (getD t i [])) (length t)
 unfolding blankRow
 unused-zero t = every-all (λ r. used r || zeroRow r) t []
 
@@ -90,7 +90,7 @@ rows-keys p (r ∷ rs) = go (unused r) (rows-keys p rs)
     go true ih = ih
     go false ih = ap (λ (x : Bool). p (keyOf r) && x) ih
 
-keys-below : (t : Table) (counter : ℕ) → below t counter ≡ allBelow (λ i. keyTest counter (getD (getD t i []) 0 0)) (length t)
+pub keys-below : (t : Table) (counter : ℕ) → below t counter ≡ allBelow (λ i. keyTest counter (getD (getD t i []) 0 0)) (length t)
 unfolding keyTest
 keys-below t counter = rows-keys (λ k. ltb k counter) t ∙ every-all (λ r. unused r || ltb (keyOf r) counter) t []
 

@@ -36,7 +36,7 @@ pub fn leads_row(arcs: &[ArcRow], row: VertexRow, v: usize) -> bool
 }
 
 // Next of (a,b), unless none, exists and leaves b.
-fn next_row(arcs: &[ArcRow], row: ArcRow) -> bool
+pub fn next_row(arcs: &[ArcRow], row: ArcRow) -> bool
     ensures { λ r. ⌜ r ≡ nextRow (now (arcs .entry)) row ⌝ }
 {
     if row[0] == 0 {
@@ -49,7 +49,7 @@ fn next_row(arcs: &[ArcRow], row: ArcRow) -> bool
 }
 
 // Previous of (a,b), unless none, exists and arrives at a.
-fn previous_row(arcs: &[ArcRow], row: ArcRow) -> bool
+pub fn previous_row(arcs: &[ArcRow], row: ArcRow) -> bool
     ensures { λ r. ⌜ r ≡ previousRow (now (arcs .entry)) row ⌝ }
 {
     if row[0] == 0 {

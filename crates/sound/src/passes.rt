@@ -107,7 +107,7 @@ fn plus(n: usize, so: bool) -> usize
 }
 
 // Whether a row is an arc that holds a face.
-fn holds_some(row: ArcRow) -> bool
+pub fn holds_some(row: ArcRow) -> bool
     ensures { λ r. ⌜ r ≡ holdsSome row ⌝ }
 {
     if row[0] == 0 {

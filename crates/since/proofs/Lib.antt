@@ -1,0 +1,14 @@
+pub mod Whole
+pub mod StillKeys
+pub mod StillRows
+pub mod StillTables
+pub mod StillEach
+pub mod StillRings
+pub mod StillSums
+pub mod StillPairs
+pub mod Still
+pub mod StillSteps
+pub mod StillLoops
+pub mod StillFaces
+pub mod StillPairing
+pub mod StillMeshes

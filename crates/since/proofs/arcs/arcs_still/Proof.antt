@@ -1,0 +1,151 @@
+use Rattle.since.proofs.StillLoops.{now-none, now-some, before-none, before-some, sum-all}
+use Prim.Native.Nat.{_-_, _≤_}
+use native.Mathlib.Omega.{arith}
+use mathlib.Core.Path.{_≡_, refl, ap, sym, _∙_}
+use mathlib.Core.Logic.{⊎-elim}
+use lib.ListN.{length}
+use borrow.Author.Tests.{not-true, not-false}
+use Rattle.rules.specs.Table.{sumBelow}
+use Rattle.names.proofs.Loops.{Passed, none-yet, one-more, all-passed}
+use Rattle.since.specs.Since.{arcsStill, heldNow, heldBefore}
+use Rattle.since.proofs.StillLoops.{never, arcsWere, arcsAre, arcPasses, addsNow, addsBefore, arc-same, arc-other, sum-stays, sum-goes}
+use borrow.Author.Needs.{needs}
+use Rattle.since.proofs.arcs.arcs_still.Statement.{statement}
+use Rattle.since.proofs.arcs.arcs_still.Tie as tie
+
+abbrev Inv-loop : tie.InvT-loop
+Inv-loop faces-before before vertices arcs edges faces held₀ was-held₀ i₀ held was-held i = (i ≤ length arcs) × ((held ≤ i) × ((was-held ≤ i) × (Passed (arcPasses (arcsWere before faces-before) (arcsAre vertices arcs edges faces)) i × ((held ≡ sumBelow (addsNow (arcsWere before faces-before) (arcsAre vertices arcs edges faces)) i) × (was-held ≡ sumBelow (addsBefore (arcsWere before faces-before) (arcsAre vertices arcs edges faces)) i)))))
+
+abbrev μ-loop : tie.MeasureT-loop
+μ-loop faces-before before vertices arcs edges faces held₀ was-held₀ i₀ held was-held i = length arcs - i
+
+loop-holds : tie.Need-loop-holds Inv-loop μ-loop
+unfolding sumBelow
+loop-holds c = let a = c .args in (search needs, (search needs, (search needs, (none-yet (arcPasses (arcsWere (a .before .now) (a .faces-before .now)) (arcsAre (a .vertices .now) (a .arcs .now) (a .edges .now) (a .faces .now))), (refl, refl)))))
+
+mul-same6 : tie.Need-mul-same6 Inv-loop μ-loop
+mul-same6 c = search needs
+
+shared-slice-copy-out-same6 : tie.Need-shared-slice-copy-out-same6 Inv-loop μ-loop
+shared-slice-copy-out-same6 c = search needs
+
+mul-same6-2 : tie.Need-mul-same6-2 Inv-loop μ-loop
+mul-same6-2 c = search needs
+
+shared-slice-copy-out-same6-2 : tie.Need-shared-slice-copy-out-same6-2 Inv-loop μ-loop
+shared-slice-copy-out-same6-2 c = search needs
+
+same6-requires : tie.Need-same6-requires Inv-loop μ-loop
+same6-requires c κs = search needs
+
+mul-arc-other : tie.Need-mul-arc-other Inv-loop μ-loop
+mul-arc-other c = search needs
+
+shared-slice-copy-out-arc-other : tie.Need-shared-slice-copy-out-arc-other Inv-loop μ-loop
+shared-slice-copy-out-arc-other c = search needs
+
+mul-arc-other-2 : tie.Need-mul-arc-other-2 Inv-loop μ-loop
+mul-arc-other-2 c = search needs
+
+shared-slice-copy-out-arc-other-2 : tie.Need-shared-slice-copy-out-arc-other-2 Inv-loop μ-loop
+shared-slice-copy-out-arc-other-2 c = search needs
+
+add-arc-other : tie.Need-add-arc-other Inv-loop μ-loop
+add-arc-other c = search needs
+
+arc-other-requires : tie.Need-arc-other-requires Inv-loop μ-loop
+arc-other-requires c κs = search needs
+
+returns : tie.Need-returns Inv-loop μ-loop
+returns c = λ e. never e
+
+mul-holds : tie.Need-mul-holds Inv-loop μ-loop
+mul-holds c = search needs
+
+shared-slice-copy-out-holds : tie.Need-shared-slice-copy-out-holds Inv-loop μ-loop
+shared-slice-copy-out-holds c = search needs
+
+holds-requires : tie.Need-holds-requires Inv-loop μ-loop
+holds-requires c κs = search needs
+
+add-held : tie.Need-add-held Inv-loop μ-loop
+add-held c = search needs
+
+mul-holds-2 : tie.Need-mul-holds-2 Inv-loop μ-loop
+mul-holds-2 c = search needs
+
+shared-slice-copy-out-holds-2 : tie.Need-shared-slice-copy-out-holds-2 Inv-loop μ-loop
+shared-slice-copy-out-holds-2 c = search needs
+
+holds-requires-2 : tie.Need-holds-requires-2 Inv-loop μ-loop
+holds-requires-2 c κs = search needs
+
+add-was-held : tie.Need-add-was-held Inv-loop μ-loop
+add-was-held c = search needs
+
+add-i : tie.Need-add-i Inv-loop μ-loop
+add-i c = search needs
+
+loop-less : tie.Need-loop-less Inv-loop μ-loop
+loop-less c = search needs
+
+loop-again : tie.Need-loop-again Inv-loop μ-loop
+loop-again c =
+    let l = c .before .before .before .before .before in
+    let a = c .before .before .before .before .before .before .args in
+    let i = l .loop .i in
+    let v = l .loop .inv in
+    let m = arcsWere (a .before .now) (a .faces-before .now) in
+    let n = arcsAre (a .vertices .now) (a .arcs .now) (a .edges .now) (a .faces .now) in
+    let s = c .before .same6 .ensures in
+    ⊎-elim
+    (λ w.
+    let h = sym s ∙ not-true _ (w .0 .taken) in
+    (search needs, (omega (arith, w .6 .ensures .1, w .9), (omega (arith, w .8 .ensures .1, w .10), (one-more (arcPasses m n) i (v .1 .1 .1 .0) (arc-other m n i (w .3 .ensures (not-false _ (w .4 .left)))), (w .9 ∙ sum-goes (addsNow m n) (l .loop .held) i (v .1 .1 .1 .1 .0) (w .6 .result) (now-some m n i (w .6 .result) h (w .6 .ensures .0)), w .10 ∙ sum-goes (addsBefore m n) (l .loop .was-held) i (v .1 .1 .1 .1 .1) (w .8 .result) (before-some m n i (w .8 .result) h (w .8 .ensures .0))))))))
+    (λ w.
+    let h = sym s ∙ not-false _ (w .0 .left) in
+    (search needs, (omega (arith, w .1), (omega (arith, w .2), (one-more (arcPasses m n) i (v .1 .1 .1 .0) (arc-same m n i h), (w .1 ∙ sum-stays (addsNow m n) (l .loop .held) i (v .1 .1 .1 .1 .0) (now-none m n i h), w .2 ∙ sum-stays (addsBefore m n) (l .loop .was-held) i (v .1 .1 .1 .1 .1) (before-none m n i h)))))))
+    (c .if1 .came)
+
+returns-2 : tie.Need-returns-2 Inv-loop μ-loop
+unfolding arcsStill heldNow heldBefore
+returns-2 c =
+    let l = c .before in
+    let a = c .before .before .args in
+    let i = l .loop .i in
+    let v = l .loop .inv in
+    let m = arcsWere (a .before .now) (a .faces-before .now) in
+    let n = arcsAre (a .vertices .now) (a .arcs .now) (a .edges .now) (a .faces .now) in
+    λ e. (sym (all-passed (arcPasses m n) (length (a .arcs .now)) i (omega arith) (omega arith) (v .1 .1 .1 .0)), (sum-all (addsNow m n) (l .loop .held) i (v .1 .1 .1 .1 .0) (length (a .arcs .now)) (omega arith) (omega arith), sum-all (addsBefore m n) (l .loop .was-held) i (v .1 .1 .1 .1 .1) (length (a .arcs .now)) (omega arith) (omega arith)), (omega arith, omega arith))
+
+pub arcs-still-spec : {M : Type 1} → statement M
+arcs-still-spec =
+    tie.close
+    (tie.spec
+    Inv-loop
+    μ-loop
+    loop-holds
+    mul-same6
+    shared-slice-copy-out-same6
+    mul-same6-2
+    shared-slice-copy-out-same6-2
+    same6-requires
+    mul-arc-other
+    shared-slice-copy-out-arc-other
+    mul-arc-other-2
+    shared-slice-copy-out-arc-other-2
+    add-arc-other
+    arc-other-requires
+    returns
+    mul-holds
+    shared-slice-copy-out-holds
+    holds-requires
+    add-held
+    mul-holds-2
+    shared-slice-copy-out-holds-2
+    holds-requires-2
+    add-was-held
+    add-i
+    loop-less
+    loop-again
+    returns-2)

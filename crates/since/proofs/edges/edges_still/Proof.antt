@@ -1,0 +1,158 @@
+use Rattle.since.proofs.StillLoops.{links-all}
+use Prim.Native.Nat.{_+_, _-_, _≤_}
+use native.Mathlib.Omega.{arith}
+use mathlib.Core.Path.{_≡_, refl, ap, sym, _∙_}
+use mathlib.Core.List.{List}
+use mathlib.Core.Logic.{⊎-elim}
+use lib.ListN.{length, length-set, take}
+use borrow.Author.Tests.{not-false}
+use Rattle.names.proofs.Loops.{Passed, none-yet, one-more, all-passed}
+use Rattle.since.specs.Since.{lastNew, newLinks}
+use Rattle.since.proofs.StillLoops.{edgePasses, edge-same, edge-other, last-stays, made-last, links-stay, links-grow}
+use borrow.Author.Needs.{needs}
+use Rattle.since.proofs.edges.edges_still.Statement.{statement}
+use Rattle.since.proofs.edges.edges_still.Tie as tie
+
+abbrev Inv-loop : tie.InvT-loop
+Inv-loop links₀ before edges arcs from to n₀ last₀ i₀ links n last i = (i ≤ length edges) × ((n ≤ 128) × ((length links ≡ 128) × ((last ≡ lastNew before edges i) × ((take n links ≡ newLinks before edges i) × Passed (edgePasses before edges arcs from to) i))))
+
+abbrev μ-loop : tie.MeasureT-loop
+μ-loop links₀ before edges arcs from to n₀ last₀ i₀ links n last i = length edges - i
+
+known-places-requires : tie.Need-known-places-requires Inv-loop μ-loop
+known-places-requires c κs = search needs
+
+loop-holds : tie.Need-loop-holds Inv-loop μ-loop
+unfolding lastNew newLinks
+loop-holds c = let a = c .before .before .args in (search needs, (search needs, (c .known-places .ensures, (refl, (refl, none-yet (edgePasses (a .before .now) (a .edges .now) (a .arcs .now) (a .from) (a .to)))))))
+
+mul-same3 : tie.Need-mul-same3 Inv-loop μ-loop
+mul-same3 c = search needs
+
+shared-slice-copy-out-same3 : tie.Need-shared-slice-copy-out-same3 Inv-loop μ-loop
+shared-slice-copy-out-same3 c = search needs
+
+mul-same3-2 : tie.Need-mul-same3-2 Inv-loop μ-loop
+mul-same3-2 c = search needs
+
+shared-slice-copy-out-same3-2 : tie.Need-shared-slice-copy-out-same3-2 Inv-loop μ-loop
+shared-slice-copy-out-same3-2 c = search needs
+
+same3-requires : tie.Need-same3-requires Inv-loop μ-loop
+same3-requires c κs = search needs
+
+returns : tie.Need-returns Inv-loop μ-loop
+returns c = λ h. absurd (h refl)
+
+mul-edge-made : tie.Need-mul-edge-made Inv-loop μ-loop
+mul-edge-made c = search needs
+
+shared-slice-copy-out-edge-made : tie.Need-shared-slice-copy-out-edge-made Inv-loop μ-loop
+shared-slice-copy-out-edge-made c = search needs
+
+mul-edge-made-2 : tie.Need-mul-edge-made-2 Inv-loop μ-loop
+mul-edge-made-2 c = search needs
+
+shared-slice-copy-out-edge-made-2 : tie.Need-shared-slice-copy-out-edge-made-2 Inv-loop μ-loop
+shared-slice-copy-out-edge-made-2 c = search needs
+
+add-edge-made : tie.Need-add-edge-made Inv-loop μ-loop
+add-edge-made c = search needs
+
+edge-made-requires : tie.Need-edge-made-requires Inv-loop μ-loop
+edge-made-requires c κs = search needs
+
+returns-2 : tie.Need-returns-2 Inv-loop μ-loop
+returns-2 c = λ h. absurd (h refl)
+
+cast-links : tie.Need-cast-links Inv-loop μ-loop
+cast-links c = search needs
+
+add-links : tie.Need-add-links Inv-loop μ-loop
+add-links c = search needs
+
+mul-links : tie.Need-mul-links Inv-loop μ-loop
+mul-links c = search needs
+
+element-write-links : tie.Need-element-write-links Inv-loop μ-loop
+element-write-links c = search needs
+
+add-n : tie.Need-add-n Inv-loop μ-loop
+add-n c = search needs
+
+mul-last : tie.Need-mul-last Inv-loop μ-loop
+mul-last c = search needs
+
+index-1-last : tie.Need-index-1-last Inv-loop μ-loop
+index-1-last c = search needs
+
+index-2-last : tie.Need-index-2-last Inv-loop μ-loop
+index-2-last c = search needs
+
+add-i : tie.Need-add-i Inv-loop μ-loop
+add-i c = search needs
+
+loop-less : tie.Need-loop-less Inv-loop μ-loop
+loop-less c = search needs
+
+loop-again : tie.Need-loop-again Inv-loop μ-loop
+loop-again c =
+    let l = c .before .before .before .before .before in
+    let a = c .before .before .before .before .before .before .before .before .args in
+    let i = l .loop .i in
+    let v = l .loop .inv in
+    let q = edgePasses (a .before .now) (a .edges .now) (a .arcs .now) (a .from) (a .to) in
+    let s = c .before .same3 .ensures in
+    ⊎-elim
+    (λ w.
+    let h = sym (w .4 .ensures) ∙ not-false _ (w .5 .left) in
+    (search needs, (omega arith, (ap length (w .7) ∙ length-set (l .loop .links) (l .loop .n) _ ∙ v .1 .1 .0, (w .9 ∙ made-last (a .before .now) (a .edges .now) (a .arcs .now) (a .from) (a .to) (l .loop .last) i h, (links-grow (a .before .now) (a .edges .now) (a .arcs .now) (a .from) (a .to) (l .loop .last) i h (l .loop .links) (c .if1 .links) (l .loop .n) (c .if1 .n) (omega arith) (v .1 .1 .1 .1 .0) (w .7) (w .8), one-more q i (v .1 .1 .1 .1 .1) (edge-other (a .before .now) (a .edges .now) (a .arcs .now) (a .from) (a .to) (l .loop .last) i h (v .1 .1 .1 .0))))))))
+    (λ w.
+    let h = sym s ∙ not-false _ (w .0 .left) in
+    (search needs, (omega arith, (ap length (w .1) ∙ v .1 .1 .0, (w .3 ∙ last-stays (a .before .now) (a .edges .now) (l .loop .last) i (v .1 .1 .1 .0) h, (rw (w .1, w .2) (links-stay (a .before .now) (a .edges .now) (a .arcs .now) (a .from) (a .to) _ i (v .1 .1 .1 .1 .0) h), one-more q i (v .1 .1 .1 .1 .1) (edge-same (a .before .now) (a .edges .now) (a .arcs .now) (a .from) (a .to) i h)))))))
+    (c .if1 .came)
+
+add-result : tie.Need-add-result Inv-loop μ-loop
+add-result c = search needs
+
+returns-3 : tie.Need-returns-3 Inv-loop μ-loop
+returns-3 c =
+    let l = c .before in
+    let a = c .before .before .before .before .args in
+    let v = l .loop .inv in
+    λ h. (sym (all-passed (edgePasses (a .before .now) (a .edges .now) (a .arcs .now) (a .from) (a .to)) (length (a .edges .now)) (l .loop .i) (omega arith) (omega arith) (v .1 .1 .1 .1 .1)), (omega arith, links-all (a .before .now) (a .edges .now) (l .loop .links) (l .loop .n) (l .loop .i) (length (a .edges .now)) (omega arith) (omega arith) (v .1 .1 .1 .1 .0)))
+
+pub edges-still-spec : {M : Type 1} → statement M
+edges-still-spec =
+    tie.close
+    (tie.spec
+    Inv-loop
+    μ-loop
+    known-places-requires
+    loop-holds
+    mul-same3
+    shared-slice-copy-out-same3
+    mul-same3-2
+    shared-slice-copy-out-same3-2
+    same3-requires
+    returns
+    mul-edge-made
+    shared-slice-copy-out-edge-made
+    mul-edge-made-2
+    shared-slice-copy-out-edge-made-2
+    add-edge-made
+    edge-made-requires
+    returns-2
+    cast-links
+    add-links
+    mul-links
+    element-write-links
+    add-n
+    mul-last
+    index-1-last
+    index-2-last
+    add-i
+    loop-less
+    loop-again
+    add-result
+    returns-3)

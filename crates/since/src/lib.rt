@@ -1,0 +1,157 @@
+// Whether tables that were sound still are: a quick test of what has changed since. Almost all rows are as they were, so each table is gone
+// through once, row against row, and only a row that differs is tested.
+
+pub mod rows; // rows.rt: two rows compared, and a new key
+pub mod vertices; // vertices.rt: the vertices
+pub mod edges; // edges.rt: the edges, and a list of the new ones
+pub mod arcs; // arcs.rt: the arcs, and how many hold a face
+pub mod faces; // faces.rt: the faces, and the rings that have come and gone
+pub mod pairs; // pairs.rt: the pairs that new edges join
+
+use rules::ArcRow;
+use rules::EdgeRow;
+use rules::FaceRow;
+use rules::PositionRow;
+use rules::VertexRow;
+use sound::passes;
+use sound::queries;
+ghost use mathlib.Core.Path.{_≡_};
+ghost use mathlib.Core.Bool.{true};
+ghost use mathlib.Core.List.{[]};
+ghost use Prim.Native.Nat.{_≤_};
+ghost use lib.ListN.{length};
+ghost use Rattle.rules.specs.Mesh.{mesh};
+ghost use Rattle.rules.specs.Sound.{sound};
+ghost use Rattle.since.specs.Since.{sizesStill, countersStill, stillSound};
+
+const EDGE_LIMIT: usize = 8192;
+
+const ARC_LIMIT: usize = 16384;
+
+const FACE_LIMIT: usize = 4096;
+
+// The tables as they were are v, p, a, e, f, and k the counters.
+
+// Whether each table has as many rows as it had, and no more than the limits allow.
+fn same_sizes(
+    v: &[VertexRow],
+    p: &[PositionRow],
+    a: &[ArcRow],
+    e: &[EdgeRow],
+    f: &[FaceRow],
+    vertices: &[VertexRow],
+    positions: &[PositionRow],
+    arcs: &[ArcRow],
+    edges: &[EdgeRow],
+    faces: &[FaceRow],
+) -> bool
+    ensures { λ r. ⌜ (r ≡ true → (sizesStill (mesh (now (v .entry)) (now (p .entry)) (now (a .entry)) (now (e .entry)) (now (f .entry)) []) (mesh (now (vertices .entry)) (now (positions .entry)) (now (arcs .entry)) (now (edges .entry)) (now (faces .entry)) []) ≡ true) × (length (now (edges .entry)) ≤ 8192) × (length (now (arcs .entry)) ≤ 16384) × (length (now (faces .entry)) ≤ 4096)) ⌝ }
+{
+    if v.len() != vertices.len() {
+        return false;
+    }
+    if p.len() != positions.len() {
+        return false;
+    }
+    if a.len() != arcs.len() {
+        return false;
+    }
+    if e.len() != edges.len() {
+        return false;
+    }
+    if f.len() != faces.len() {
+        return false;
+    }
+    if edges.len() > EDGE_LIMIT {
+        return false;
+    }
+    if arcs.len() > ARC_LIMIT {
+        return false;
+    }
+    faces.len() <= FACE_LIMIT
+}
+
+// Whether no counter has gone back.
+fn counters_up(k: &[u32; 3], counters: &[u32; 3]) -> bool
+    ensures { λ r. ⌜ (r ≡ true → countersStill (mesh [] [] [] [] [] (now (k .entry))) (mesh [] [] [] [] [] (now (counters .entry))) ≡ true) ⌝ }
+{
+    if k[0] > counters[0] {
+        return false;
+    }
+    if k[1] > counters[1] {
+        return false;
+    }
+    k[2] <= counters[2]
+}
+
+// Whether what has changed passes the test: then tables that were sound still are.
+pub fn still_sound(
+    v: &[VertexRow],
+    p: &[PositionRow],
+    a: &[ArcRow],
+    e: &[EdgeRow],
+    f: &[FaceRow],
+    k: &[u32; 3],
+    vertices: &[VertexRow],
+    positions: &[PositionRow],
+    arcs: &[ArcRow],
+    edges: &[EdgeRow],
+    faces: &[FaceRow],
+    counters: &[u32; 3],
+) -> bool
+    ensures { λ r. ⌜ (r ≡ true → stillSound (mesh (now (v .entry)) (now (p .entry)) (now (a .entry)) (now (e .entry)) (now (f .entry)) (now (k .entry))) (mesh (now (vertices .entry)) (now (positions .entry)) (now (arcs .entry)) (now (edges .entry)) (now (faces .entry)) (now (counters .entry))) ≡ true) ⌝ }
+{
+    if !same_sizes(v, p, a, e, f, vertices, positions, arcs, edges, faces) {
+        return false;
+    }
+    if !counters_up(k, counters) {
+        return false;
+    }
+    if !vertices::vertices_still(v, vertices, arcs, k[0], counters[0]) {
+        return false;
+    }
+    if !passes::positions_sound(vertices, positions) {
+        return false;
+    }
+    if !pairs::edges_apart(v, a, e, arcs, edges, k[1], counters[1]) {
+        return false;
+    }
+    faces::rings_still(a, f, vertices, arcs, edges, faces, k[2], counters[2])
+}
+
+// Whether tables that were sound still are: by what has changed where that tells it, else by all the tables.
+pub fn sound_since(
+    v: &[VertexRow],
+    p: &[PositionRow],
+    a: &[ArcRow],
+    e: &[EdgeRow],
+    f: &[FaceRow],
+    k: &[u32; 3],
+    vertices: &[VertexRow],
+    positions: &[PositionRow],
+    arcs: &[ArcRow],
+    edges: &[EdgeRow],
+    faces: &[FaceRow],
+    counters: &[u32; 3],
+) -> bool
+    requires { ⌜ sound (mesh (now v) (now p) (now a) (now e) (now f) (now k)) ≡ true ⌝ }
+    ensures { λ r. ⌜ r ≡ sound (mesh (now (vertices .entry)) (now (positions .entry)) (now (arcs .entry)) (now (edges .entry)) (now (faces .entry)) (now (counters .entry))) ⌝ }
+{
+    if still_sound(
+        v,
+        p,
+        a,
+        e,
+        f,
+        k,
+        vertices,
+        positions,
+        arcs,
+        edges,
+        faces,
+        counters,
+    ) {
+        return true;
+    }
+    queries::is_sound(vertices, positions, arcs, edges, faces, counters)
+}

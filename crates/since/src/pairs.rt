@@ -1,0 +1,126 @@
+// The pairs: no new edge joins a pair that another edge joins. Only a few new edges between two vertices that were there are searched for
+// among the arcs as they were; where there are more, or more new edges than are listed, the test fails and all tables are tested.
+
+use crate::edges as table;
+use crate::edges::NEW;
+use rules::ArcRow;
+use rules::EdgeRow;
+use rules::VertexRow;
+use tables::rows as cells;
+ghost use mathlib.Core.Path.{_≡_};
+ghost use mathlib.Core.Bool.{true, not, cond, _&&_, _||_};
+ghost use mathlib.Core.List.{[], _∷_};
+ghost use Prim.Native.Nat.{_≤_};
+ghost use lib.ListN.{length, getD, take};
+ghost use lib.Dec.{eqb};
+ghost use Rattle.rules.specs.Table.{there, allBelow};
+ghost use Rattle.rules.specs.Mesh.{mesh, arcBetween};
+ghost use Rattle.since.specs.Since.{newApart, edgesStill, pairsStill};
+
+// How many new edges between old vertices are searched for.
+const INNER: usize = 4;
+
+// ---- one new edge
+
+// 1 if both ends were there, else 0.
+fn inner(vertices: &[VertexRow], a: u32, b: u32) -> usize
+    ensures { λ r. ⌜ (r ≡ cond (there (now (vertices .entry)) a && there (now (vertices .entry)) b) 1 0) × (r ≤ 1) ⌝ }
+{
+    if cells::cell2(vertices, a, 0) == 0 {
+        return 0;
+    }
+    if cells::cell2(vertices, b, 0) == 0 {
+        return 0;
+    }
+    1
+}
+
+// No arc led from the one to the other, where both were there.
+fn unjoined(before: &[ArcRow], both: usize, a: u32, b: u32) -> bool
+    ensures { λ r. ⌜ r ≡ (eqb both 0 || eqb (arcBetween (now (before .entry)) a b) 0) ⌝ }
+{
+    if both == 0 {
+        return true;
+    }
+    cells::find_arc(before, a, b) == 0
+}
+
+// The name is none of the n before.
+fn new_name(names: &[u32; NEW], n: usize, name: u32) -> bool
+    requires { ⌜ n ≤ 128 ⌝ }
+    ensures { λ r. ⌜ r ≡ allBelow (λ j. not (eqb (getD (now (names .entry)) j 0) name)) n ⌝ }
+{
+    let mut j = 0;
+    while j < n {
+        if names[j] == name {
+            return false;
+        }
+        j += 1;
+    }
+    true
+}
+
+// Says only how many places a list has.
+fn known_places(links: [u32; NEW])
+    ensures { λ _. ⌜ length links ≡ 128 ⌝ }
+{}
+
+// ---- all of them
+
+pub fn pairs_apart(
+    vertices: &[VertexRow],
+    before: &[ArcRow],
+    arcs: &[ArcRow],
+    edges: &[EdgeRow],
+    links: &[u32; NEW],
+    n: usize,
+) -> bool
+    requires { ⌜ n ≤ 128 ⌝ }
+    ensures { λ r. ⌜ (r ≡ true → newApart (mesh (now (vertices .entry)) [] (now (before .entry)) [] [] []) (mesh [] [] (now (arcs .entry)) (now (edges .entry)) [] []) (take n (now (links .entry))) ≡ true) ⌝ }
+{
+    known_places(*links);
+    let mut names = [0u32; NEW];
+    let mut near: usize = 0;
+    let mut i: usize = 0;
+    while i < n {
+        let x = cells::cell3(edges, links[i], 1);
+        let a = cells::cell6(arcs, x, 0);
+        let b = cells::cell6(arcs, x, 1);
+        let name = names::pair_name(a, b);
+        if !new_name(&names, i, name) {
+            return false;
+        }
+        names[i] = name;
+        let both = inner(vertices, a, b);
+        near += both;
+        if near > INNER {
+            return false;
+        }
+        if !unjoined(before, both, a, b) {
+            return false;
+        }
+        i += 1;
+    }
+    true
+}
+
+// The edges and the pairs that they join.
+pub fn edges_apart(
+    vertices: &[VertexRow],
+    before: &[ArcRow],
+    were: &[EdgeRow],
+    arcs: &[ArcRow],
+    edges: &[EdgeRow],
+    from: u32,
+    to: u32,
+) -> bool
+    requires { ⌜ (length (now were) ≡ length (now edges)) × (length (now edges) ≤ 8192) ⌝ }
+    ensures { λ r. ⌜ (r ≡ true → (edgesStill (mesh (now (vertices .entry)) [] (now (before .entry)) (now (were .entry)) [] (0 ∷ from ∷ [])) (mesh [] [] (now (arcs .entry)) (now (edges .entry)) [] (0 ∷ to ∷ [])) ≡ true) × (pairsStill (mesh (now (vertices .entry)) [] (now (before .entry)) (now (were .entry)) [] (0 ∷ from ∷ [])) (mesh [] [] (now (arcs .entry)) (now (edges .entry)) [] (0 ∷ to ∷ [])) ≡ true)) ⌝ }
+{
+    let mut links = [0u32; NEW];
+    let n = table::edges_still(&mut links, were, edges, arcs, from, to);
+    if n == 0 {
+        return false;
+    }
+    pairs_apart(vertices, before, arcs, edges, &links, n - 1)
+}
