@@ -64,7 +64,7 @@ pub need-suffices : (m : Mesh) (e : Edit) (keys : List ℕ) → ThreeCounters m 
 unfolding given checks movesFinite need work workBy removedBy removeWork arcByKeys
 need-suffices m (VertexInsert p) keys k t g c f r =
     let s = facts m t in
-    let room = vertex-room m p r in
+    let room = vertex-room m p keys r in
     suffices m (VertexInsert p) keys (met m _ r)
     (λ by like. step-made (by .vertex m p) _ (needs 1 0 0 0) (tally-vertex m s k p room) zero-le zero-le (vertex-by by like m s p room))
 need-suffices m (FaceInsert mark) keys k t g c f r =

@@ -16,7 +16,7 @@ use Rattle.rules.specs.Table.{Table, cell, put, putRow, there, has, upTo, count
 use Rattle.rules.specs.Mesh.{Mesh, Room, mesh, with-arcs, face, keyAt, findFace}
 use Rattle.rules.specs.Link.{setFace, ring}
 use Rattle.rules.specs.Edit.{known, remove, removeWork}
-use Rattle.rules.specs.Sound.{ringHolds, holdersOnRing}
+use Rattle.rules.specs.Sound.{sound, ringHolds, holdersOnRing}
 use Rattle.rules.specs.Step.{told, accepted}
 use Rattle.rules.specs.Call.{checks, work, faceRemove}
 use Rattle.rules.proofs.Sums.{every-has}
@@ -34,7 +34,7 @@ use Rattle.kept.specs.Reaches.{Spared, KeepsEnds}
 use Rattle.kept.proofs.Rings.{ring-stays}
 use Rattle.kept.proofs.Spared.{stays-spared}
 use Rattle.kept.proofs.Find.{find-back}
-use Rattle.kept.proofs.Eight.{never-8}
+use Rattle.kept.proofs.Eight.{Behind, never-8}
 use Rattle.rules.proofs.Counts.{bit, count-set}
 
 -- ---- the ring's list and the arcs that hold the face
@@ -226,9 +226,13 @@ pub found-face : (l : ℕ) → T (accepted (known l)) → l ≡ 0 → ⊥
 unfolding known accepted
 found-face l h e = rw (eq-eqb l 0 e) at h
 
+-- behind its tests it leaves a sound mesh
+pub face-remove-keeps : (m : Mesh) (f : ℕ) (keys : List ℕ) → Behind m (FaceRemove f) keys → T (sound (work m (FaceRemove f) keys .tables))
+unfolding checks work removeWork
+face-remove-keeps m f keys b =
+    sound-from (remove m (findFace m f)) (remove-kept m (facts m (b .was-sound)) (findFace m f) (find-back (m .faces) f (found-face (findFace m f) (b .checks-passed)) .0))
+
 -- (2) a face removal is never answered with 8, whatever tables, counters, rooms and key it is given
 pub never-8-remove : (m : Mesh) (one two : Room) (f : ℕ) → told (faceRemove m one two f .answer) .number ≡ 8 → ⊥
-unfolding faceRemove checks work removeWork
-never-8-remove m one two f =
-    never-8 m (FaceRemove f) [] one two
-    (λ b. sound-from (remove m (findFace m f)) (remove-kept m (facts m (b .was-sound)) (findFace m f) (find-back (m .faces) f (found-face (findFace m f) (b .checks-passed)) .0)))
+unfolding faceRemove
+never-8-remove m one two f = never-8 m (FaceRemove f) [] one two (face-remove-keeps m f [])

@@ -16,7 +16,8 @@ use Rattle.rules.specs.Mesh.{Mesh, Room, leading, vertexKind, edgeKind, faceKin
 use Rattle.rules.specs.Point.{rowOf, positionAt, finitePosition, finiteRow, exponentField}
 use Rattle.rules.specs.Link.{putVertex, newVertex, freeVertex}
 use Rattle.rules.specs.Extrude.{movedPosition}
-use Rattle.rules.specs.Call.{given, checks, need, needs, roomFor, work, vertexInsert}
+use Rattle.rules.specs.Call.{given, need, needs, roomFor, work, vertexInsert}
+use Rattle.rules.specs.Sound.{sound}
 use Rattle.rules.specs.Step.{told}
 use Rattle.proved.specs.Facts.{SoundFacts, IsVertex, coordinate}
 use Rattle.proved.proofs.Rows.{differ-T, in-table}
@@ -27,7 +28,7 @@ use Rattle.kept.proofs.Cells.{putRow-rows, row-here, row-other}
 use Rattle.kept.proofs.Free.{took, new-there, old-differs, old-there, old-cell, there-cases, took-zero, took-keys-differ, took-keys-below}
 use Rattle.kept.proofs.Counted.{met, key-back, one-up-some, counted-here, counted-other}
 use Rattle.kept.proofs.Rings.{ring-stays}
-use Rattle.kept.proofs.Eight.{never-8}
+use Rattle.kept.proofs.Eight.{Behind, never-8}
 
 module _ (m : Mesh) (p : Position) (r : RoomForVertex m) (s : SoundFacts m) where
   -- the new row, with its key and no leading arc; every other vertex keeps its row
@@ -131,12 +132,16 @@ module _ (m : Mesh) (p : Position) (r : RoomForVertex m) (s : SoundFacts m) wher
 -- ---- the call
 
 -- the need is enough: a vertex insert finds its row and its key
-pub vertex-room : (m : Mesh) (p : Position) → T (roomFor m (need m (VertexInsert p) [])) → RoomForVertex m
+pub vertex-room : (m : Mesh) (p : Position) (keys : List ℕ) → T (roomFor m (need m (VertexInsert p) keys)) → RoomForVertex m
 unfolding need
-vertex-room m p h = let w = met m (needs 1 0 0 0) h in record { a-row = w .vertex-rows; a-key = w .vertex-keys }
+vertex-room m p keys h = let w = met m (needs 1 0 0 0) h in record { a-row = w .vertex-rows; a-key = w .vertex-keys }
+
+-- behind its tests it leaves a sound mesh
+pub vertex-insert-keeps : (m : Mesh) (p : Position) (keys : List ℕ) → ThreeCounters m → Behind m (VertexInsert p) keys → T (sound (work m (VertexInsert p) keys .tables))
+unfolding work given
+vertex-insert-keeps m p keys k b = sound-from (newVertex m p) (vertex-kept m p (vertex-room m p keys (b .need-met)) (facts m (b .was-sound)) k (b .numbers-given))
 
 -- (1) a vertex insert is never answered with 8, whatever tables, rooms and position it is given
 pub never-8-vertex : (m : Mesh) (one two : Room) (p : Position) → ThreeCounters m → told (vertexInsert m one two p .answer) .number ≡ 8 → ⊥
-unfolding vertexInsert checks work given
-never-8-vertex m one two p k =
-    never-8 m (VertexInsert p) [] one two (λ b. sound-from (newVertex m p) (vertex-kept m p (vertex-room m p (b .need-met)) (facts m (b .was-sound)) k (b .numbers-given)))
+unfolding vertexInsert
+never-8-vertex m one two p k = never-8 m (VertexInsert p) [] one two (vertex-insert-keeps m p [] k)

@@ -50,9 +50,13 @@ pub decided-is : (m : Mesh) (e : Edit) (keys : List ℕ) → decided m e keys �
 unfolding decided beforeWork
 decided-is m e keys = order (given e keys) (accepted (checks m e keys)) (movesFinite m e) (roomFor m (need m e keys)) (checks m e keys) m (worked (work m e keys)) refl
 
--- the whole of it: n is the copy, s what the work left in it, l what was settled
-pub performed : (m n : Mesh) (e : Edit) (keys : List ℕ) (s : Step) (l : Left) → accepted (beforeWork m e keys) ≡ true → n ≡ m → s ≡ work n e keys → l ≡ T.over m (worked s) → l ≡ T.over m (decided m e keys)
-performed m n e keys s l a en es el = el ∙ ap (λ (t : Step). T.over m (worked t)) (es ∙ ap (λ (t : Mesh). work t e keys) en) ∙ ap (T.over m) (sym (decided-is m e keys ∙ rw a))
+-- the work in room: n is the copy, s what the work left in it, l what was settled
+pub in-room : (m n : Mesh) (e : Edit) (keys : List ℕ) (s : Step) (l : Left) → n ≡ m → s ≡ work n e keys → l ≡ T.over m (worked s) → l ≡ T.over m (worked (work m e keys))
+in-room m n e keys s l en es el = el ∙ ap (λ (t : Step). T.over m (worked t)) (es ∙ ap (λ (t : Mesh). work t e keys) en)
+
+-- behind what is decided first, the work is what is decided
+pub performed : (m : Mesh) (e : Edit) (keys : List ℕ) (l : Left) → accepted (beforeWork m e keys) ≡ true → l ≡ T.over m (worked (work m e keys)) → l ≡ T.over m (decided m e keys)
+performed m e keys l a el = el ∙ ap (T.over m) (sym (decided-is m e keys ∙ rw a))
 
 pub not-performed : (m : Mesh) (e : Edit) (keys : List ℕ) → accepted (beforeWork m e keys) ≡ false → left (beforeWork m e keys) m ≡ T.over m (decided m e keys)
 not-performed m e keys a = over-refused m (step m (beforeWork m e keys)) a ∙ ap (T.over m) (sym (decided-is m e keys ∙ rw a))
@@ -122,3 +126,7 @@ ready-fits m one two e =
     let a = enough-fits m one (h .0) in
     let b = enough-fits m two (h .1) in
     record { vertices = a .0; positions = a .1; arcs = a .2; edges = a .3; faces = a .4; past = b .2; pastedges = b .3 }
+
+pub ready-sound : (m : Mesh) (one two : Room) → ready m one two ≡ true → sound m ≡ true
+unfolding ready
+ready-sound m one two e = and-true (sound m) (roomEnough m one && roomEnough m two) e .0

@@ -18,11 +18,15 @@ use tables::sets;
 ghost use mathlib.Core.Path.{_≡_};
 ghost use lib.ListN.{length};
 ghost use Rattle.rules.specs.Mesh.{mesh, room};
-ghost use Rattle.rules.specs.Call.{decided, called, outcome};
+ghost use mathlib.Core.Bool.{true};
+ghost use Prim.Native.Nat.{ℕ, _≤_};
+ghost use Rattle.rules.specs.declared.Edit.the-variants.{FaceInsert};
+ghost use Rattle.rules.specs.Sound.{sound};
+ghost use Rattle.rules.specs.Call.{work, worked, decided, called, outcome};
 ghost use Rattle.order.specs.Transaction.{left, over, SameSize, Fits};
 
 // The edit in room that is as long as the mesh, and what is settled.
-fn perform(
+fn work_in_room(
     vertices: &mut [VertexRow],
     positions: &mut [PositionRow],
     arcs: &mut [ArcRow],
@@ -39,23 +43,12 @@ fn perform(
     edit: Edit,
     keys: &[u32],
 ) -> Answer
+    requires { ⌜ sound (mesh (now vertices) (now positions) (now arcs) (now edges) (now faces) (now counters)) ≡ true ⌝ }
     requires { ⌜ SameSize (mesh (now vertices) (now positions) (now arcs) (now edges) (now faces) (now counters)) (mesh (now v) (now p) (now a) (now e) (now f) (now counters)) ⌝ }
     requires { ⌜ (length (now past) ≡ length (now arcs)) × (length (now pastedges) ≡ length (now edges)) ⌝ }
-    ensures { λ r. ⌜ left r (mesh (now (vertices .exit)) (now (positions .exit)) (now (arcs .exit)) (now (edges .exit)) (now (faces .exit)) (now (counters .exit))) ≡ over (mesh (now (vertices .entry)) (now (positions .entry)) (now (arcs .entry)) (now (edges .entry)) (now (faces .entry)) (now (counters .entry))) (decided (mesh (now (vertices .entry)) (now (positions .entry)) (now (arcs .entry)) (now (edges .entry)) (now (faces .entry)) (now (counters .entry))) edit (now (keys .entry))) ⌝ }
+    requires { ⌜ ((mark : ℕ) → edit ≡ FaceInsert mark → length (now keys) ≤ 64) ⌝ }
+    ensures { λ r. ⌜ left r (mesh (now (vertices .exit)) (now (positions .exit)) (now (arcs .exit)) (now (edges .exit)) (now (faces .exit)) (now (counters .exit))) ≡ over (mesh (now (vertices .entry)) (now (positions .entry)) (now (arcs .entry)) (now (edges .entry)) (now (faces .entry)) (now (counters .entry))) (worked (work (mesh (now (vertices .entry)) (now (positions .entry)) (now (arcs .entry)) (now (edges .entry)) (now (faces .entry)) (now (counters .entry))) edit (now (keys .entry)))) ⌝ }
 {
-    let first = decide::decide(
-        vertices,
-        positions,
-        arcs,
-        edges,
-        faces,
-        counters,
-        edit,
-        keys,
-    );
-    if !answers::accepted(first) {
-        return first;
-    }
     sets::copy_set(v, p, a, e, f, vertices, positions, arcs, edges, faces);
     let mut k = *counters;
     let told = choice::work(v, p, a, e, f, &mut k, past, pastedges, edit, keys);
@@ -73,6 +66,81 @@ fn perform(
         f,
         k,
         told,
+    )
+}
+
+// Says only that there are three.
+fn known_three(counters: [u32; 3])
+    ensures { λ _. ⌜ length counters ≡ 3 ⌝ }
+{}
+
+// The edit on a sound mesh: what is decided before it, then the work. Where the work may be refused it is done in room.
+fn perform(
+    vertices: &mut [VertexRow],
+    positions: &mut [PositionRow],
+    arcs: &mut [ArcRow],
+    edges: &mut [EdgeRow],
+    faces: &mut [FaceRow],
+    counters: &mut [u32; 3],
+    v: &mut [VertexRow],
+    p: &mut [PositionRow],
+    a: &mut [ArcRow],
+    e: &mut [EdgeRow],
+    f: &mut [FaceRow],
+    past: &mut [ArcRow],
+    pastedges: &mut [EdgeRow],
+    edit: Edit,
+    keys: &[u32],
+) -> Answer
+    requires { ⌜ sound (mesh (now vertices) (now positions) (now arcs) (now edges) (now faces) (now counters)) ≡ true ⌝ }
+    requires { ⌜ SameSize (mesh (now vertices) (now positions) (now arcs) (now edges) (now faces) (now counters)) (mesh (now v) (now p) (now a) (now e) (now f) (now counters)) ⌝ }
+    requires { ⌜ (length (now past) ≡ length (now arcs)) × (length (now pastedges) ≡ length (now edges)) ⌝ }
+    ensures { λ r. ⌜ left r (mesh (now (vertices .exit)) (now (positions .exit)) (now (arcs .exit)) (now (edges .exit)) (now (faces .exit)) (now (counters .exit))) ≡ over (mesh (now (vertices .entry)) (now (positions .entry)) (now (arcs .entry)) (now (edges .entry)) (now (faces .entry)) (now (counters .entry))) (decided (mesh (now (vertices .entry)) (now (positions .entry)) (now (arcs .entry)) (now (edges .entry)) (now (faces .entry)) (now (counters .entry))) edit (now (keys .entry))) ⌝ }
+{
+    known_three(*counters);
+    let first = decide::decide(
+        vertices,
+        positions,
+        arcs,
+        edges,
+        faces,
+        counters,
+        edit,
+        keys,
+    );
+    if !answers::accepted(first) {
+        return first;
+    }
+    if settle::keeps_sound(edit) {
+        return choice::work(
+            vertices,
+            positions,
+            arcs,
+            edges,
+            faces,
+            counters,
+            past,
+            pastedges,
+            edit,
+            keys,
+        );
+    }
+    work_in_room(
+        vertices,
+        positions,
+        arcs,
+        edges,
+        faces,
+        counters,
+        v,
+        p,
+        a,
+        e,
+        f,
+        past,
+        pastedges,
+        edit,
+        keys,
     )
 }
 
@@ -94,6 +162,7 @@ fn perform_in_parts(
     edit: Edit,
     keys: &[u32],
 ) -> Answer
+    requires { ⌜ sound (mesh (now vertices) (now positions) (now arcs) (now edges) (now faces) (now counters)) ≡ true ⌝ }
     requires { ⌜ Fits (mesh (now vertices) (now positions) (now arcs) (now edges) (now faces) (now counters)) (room (now v) (now p) (now a) (now e) (now f)) (now past) (now pastedges) ⌝ }
     ensures { λ r. ⌜ left r (mesh (now (vertices .exit)) (now (positions .exit)) (now (arcs .exit)) (now (edges .exit)) (now (faces .exit)) (now (counters .exit))) ≡ over (mesh (now (vertices .entry)) (now (positions .entry)) (now (arcs .entry)) (now (edges .entry)) (now (faces .entry)) (now (counters .entry))) (decided (mesh (now (vertices .entry)) (now (positions .entry)) (now (arcs .entry)) (now (edges .entry)) (now (faces .entry)) (now (counters .entry))) edit (now (keys .entry))) ⌝ }
 {

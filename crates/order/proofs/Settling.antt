@@ -66,9 +66,21 @@ pub worked-done : (s : Step) → accepted (s .answer) ≡ true → sound (s .tab
 unfolding worked lastStep
 worked-done s e h = rw (e, h)
 
-break-refused : accepted (Refused WouldBreak) ≡ false
-unfolding accepted
-break-refused = refl
+-- the tables are the work's, whatever is answered
+worked-tables : (s : Step) → worked s .tables ≡ s .tables
+unfolding worked lastStep
+worked-tables s = go (accepted (s .answer)) (sound (s .tables))
+  where
+    go : (a b : Bool) → cond a (cond b s (stops (s .tables) WouldBreak)) s .tables ≡ s .tables
+    go true true = refl
+    go true false = refl
+    go false b = refl
 
-pub left-broken : (m : Mesh) (s : Step) → accepted (s .answer) ≡ true → sound (s .tables) ≡ false → left (Refused WouldBreak) m ≡ T.over m (worked s)
-left-broken m s e h = over-refused m (stops (s .tables) WouldBreak) break-refused ∙ ap (T.over m) (sym (worked-broken s e h))
+-- ---- what is settled: n is what the work made, b the mesh, x the answer
+
+module _ (b n : Mesh) (t x : Answer) (e : x ≡ worked (step n t) .answer) where
+  pub copied-over : accepted x ≡ true → left x n ≡ T.over b (worked (step n t))
+  copied-over a = (λ i. left (e i) (sym (worked-tables (step n t)) i)) ∙ over-accepted b (worked (step n t)) (ap accepted (sym e) ∙ a)
+
+  pub left-alone : accepted x ≡ false → left x b ≡ T.over b (worked (step n t))
+  left-alone a = ap (λ (y : Answer). left y b) e ∙ over-refused b (worked (step n t)) (ap accepted (sym e) ∙ a)

@@ -1,7 +1,7 @@
 -- A call in the pieces in which the code goes through it: what is decided before the first change, the work in room one, and what is
 -- settled at the end.
 use mathlib.Core.Path.{_≡_}
-use mathlib.Core.Bool.{Bool, not, cond}
+use mathlib.Core.Bool.{Bool, true, false, not, cond}
 use mathlib.Core.List.{List}
 use Prim.Native.Nat.{ℕ, _≤_}
 use lib.ListN.{length}
@@ -10,6 +10,7 @@ use Rattle.rules.specs.declared.Answer.the-variants.{Done, Refused}
 use Rattle.rules.specs.declared.Refusal.the-variants.{Argument, NoRoom}
 use Rattle.rules.specs.Table.{Table}
 use Rattle.rules.specs.declared.Edit.{Edit}
+use Rattle.rules.specs.declared.Edit.the-variants.{VertexInsert, FaceInsert, FaceRemove, FaceSplit, FacePoke, FaceBridge, FaceExtrude, ArcBridge, ArcExtrude}
 use Rattle.rules.specs.Mesh.{Mesh, Room}
 use Rattle.rules.specs.Step.{Step, accepted}
 use Rattle.rules.specs.Call.{kept, given, checks, movesFinite, roomFor, need}
@@ -50,3 +51,15 @@ pub record Fits (m : Mesh) (r : Room) (a e : Table) : Type 0 where
   pub faces : length (m .faces) ≤ length (r .faces)
   pub past : length (m .arcs) ≤ length a
   pub pastedges : length (m .edges) ≤ length e
+
+-- edits that refuse nothing in mid-edit and always leave a sound mesh: they are accepted before their first change, so they need no room
+unfoldable pub keepsSound : Edit → Bool
+keepsSound (VertexInsert p) = true
+keepsSound (FaceInsert mark) = false
+keepsSound (FaceRemove f) = true
+keepsSound (FaceSplit f s d) = false
+keepsSound (FacePoke f p) = false
+keepsSound (FaceBridge f g) = false
+keepsSound (FaceExtrude f move) = false
+keepsSound (ArcBridge a b c d) = false
+keepsSound (ArcExtrude s d move) = false

@@ -1,9 +1,11 @@
-// What is settled when the work is done: a refusal in mid-edit, 8 if the result would not be sound, else the room is copied over the mesh
-// and the counters are set. Document 01: "Every refusal .. changes no mesh table and no counter."
+// What is settled when the work is done in room: a refusal in mid-edit, 8 if the result would not be sound, else the room is copied over the
+// mesh and the counters are set. Document 01: "work in lent room, copied over only when accepted", "Every refusal .. changes no mesh table and
+// no counter."
 
 use rules::Answer;
 use rules::ArcRow;
 use rules::EdgeRow;
+use rules::Edit;
 use rules::FaceRow;
 use rules::PositionRow;
 use rules::Refusal;
@@ -13,9 +15,70 @@ use tables::sets;
 ghost use mathlib.Core.Path.{_≡_};
 ghost use Rattle.rules.specs.Mesh.{mesh};
 ghost use Rattle.rules.specs.Step.{step};
+ghost use mathlib.Core.Bool.{true};
+ghost use Rattle.rules.specs.Sound.{sound};
 ghost use Rattle.rules.specs.Call.{worked};
-ghost use Rattle.order.specs.Transaction.{left, over, SameSize};
+ghost use Rattle.order.specs.Transaction.{left, over, SameSize, keepsSound};
 
+// Whether an edit is one that refuses nothing in mid-edit and always leaves a sound mesh, so that it needs no room and nothing is to be settled.
+pub fn keeps_sound(edit: Edit) -> bool
+    ensures { λ r. ⌜ r ≡ keepsSound edit ⌝ }
+{
+    match edit {
+        Edit::VertexInsert(_) => true,
+        Edit::FaceInsert(_) => false,
+        Edit::FaceRemove(_) => true,
+        Edit::FaceSplit(_, _, _) => false,
+        Edit::FacePoke(_, _) => false,
+        Edit::FaceBridge(_, _) => false,
+        Edit::FaceExtrude(_, _) => false,
+        Edit::ArcBridge(_, _, _, _) => false,
+        Edit::ArcExtrude(_, _, _) => false,
+    }
+}
+
+// What the work comes to: what it told, or 8 where the tables that it leaves are not sound. Those from v to k are as they were, and sound.
+fn judged(
+    v: &[VertexRow],
+    p: &[PositionRow],
+    a: &[ArcRow],
+    e: &[EdgeRow],
+    f: &[FaceRow],
+    k: &[u32; 3],
+    vertices: &[VertexRow],
+    positions: &[PositionRow],
+    arcs: &[ArcRow],
+    edges: &[EdgeRow],
+    faces: &[FaceRow],
+    counters: &[u32; 3],
+    told: Answer,
+) -> Answer
+    requires { ⌜ sound (mesh (now v) (now p) (now a) (now e) (now f) (now k)) ≡ true ⌝ }
+    ensures { λ r. ⌜ r ≡ worked (step (mesh (now (vertices .entry)) (now (positions .entry)) (now (arcs .entry)) (now (edges .entry)) (now (faces .entry)) (now (counters .entry))) told) .answer ⌝ }
+{
+    if !answers::accepted(told) {
+        return told;
+    }
+    if since::sound_since(
+        v,
+        p,
+        a,
+        e,
+        f,
+        k,
+        vertices,
+        positions,
+        arcs,
+        edges,
+        faces,
+        counters,
+    ) {
+        return told;
+    }
+    Answer::Refused(Refusal::WouldBreak)
+}
+
+// The mesh, and in room what the work has made of it.
 pub fn settle(
     vertices: &mut [VertexRow],
     positions: &mut [PositionRow],
@@ -31,16 +94,29 @@ pub fn settle(
     k: [u32; 3],
     told: Answer,
 ) -> Answer
+    requires { ⌜ sound (mesh (now vertices) (now positions) (now arcs) (now edges) (now faces) (now counters)) ≡ true ⌝ }
     requires { ⌜ SameSize (mesh (now vertices) (now positions) (now arcs) (now edges) (now faces) (now counters)) (mesh (now v) (now p) (now a) (now e) (now f) k) ⌝ }
     ensures { λ r. ⌜ left r (mesh (now (vertices .exit)) (now (positions .exit)) (now (arcs .exit)) (now (edges .exit)) (now (faces .exit)) (now (counters .exit))) ≡ over (mesh (now (vertices .entry)) (now (positions .entry)) (now (arcs .entry)) (now (edges .entry)) (now (faces .entry)) (now (counters .entry))) (worked (step (mesh (now (v .entry)) (now (p .entry)) (now (a .entry)) (now (e .entry)) (now (f .entry)) k) told)) ⌝ }
 {
-    if !answers::accepted(told) {
-        return told;
-    }
-    if !sound::queries::is_sound(v, p, a, e, f, &k) {
-        return Answer::Refused(Refusal::WouldBreak);
+    let answer = judged(
+        vertices,
+        positions,
+        arcs,
+        edges,
+        faces,
+        counters,
+        v,
+        p,
+        a,
+        e,
+        f,
+        &k,
+        told,
+    );
+    if !answers::accepted(answer) {
+        return answer;
     }
     sets::copy_set(vertices, positions, arcs, edges, faces, v, p, a, e, f);
     *counters = k;
-    told
+    answer
 }

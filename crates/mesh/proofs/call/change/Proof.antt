@@ -8,7 +8,7 @@ use Rattle.rules.specs.Mesh.{Mesh, mesh, Room, room}
 use Rattle.rules.specs.Call.{zeroed}
 use Rattle.order.specs.Transaction.{left, over, Fits}
 use Rattle.rules.specs.Call.{decided, ready}
-use Rattle.mesh.proofs.Calling.{SameRoom, called-not, called-done, ready-fits}
+use Rattle.mesh.proofs.Calling.{SameRoom, called-not, called-done, ready-fits, ready-sound}
 use Rattle.mesh.proofs.call.change.Statement.{statement}
 use Rattle.mesh.proofs.call.change.Tie as tie
 
@@ -68,7 +68,8 @@ returns c =
 perform-in-parts-requires : tie.Need-perform-in-parts-requires
 perform-in-parts-requires c κs =
     let x = c .before .before .before .before .before .before .before .before .before .before .before .before .before .before .before .before .before .before .before .before .before .before .before .before .before .before .before .before .before .before .before .before .args in
-    ready-fits (mesh (x .vertices .now) (x .positions .now) (x .arcs .now) (x .edges .now) (x .faces .now) (x .counters .now)) (room (x .v1 .now) (x .p1 .now) (x .a1 .now) (x .e1 .now) (x .f1 .now)) (room (x .v2 .now) (x .p2 .now) (x .a2 .now) (x .e2 .now) (x .f2 .now)) (sym (c .before .before .before .before .before .before .before .before .before .before .before .before .before .before .is-ready .ensures) ∙ not-false _ (c .before .before .before .before .before .before .before .before .before .before .before .before .before .if1 .left))
+    let h = sym (c .before .before .before .before .before .before .before .before .before .before .before .before .before .before .is-ready .ensures) ∙ not-false _ (c .before .before .before .before .before .before .before .before .before .before .before .before .before .if1 .left) in
+    (ready-sound (mesh (x .vertices .now) (x .positions .now) (x .arcs .now) (x .edges .now) (x .faces .now) (x .counters .now)) (room (x .v1 .now) (x .p1 .now) (x .a1 .now) (x .e1 .now) (x .f1 .now)) (room (x .v2 .now) (x .p2 .now) (x .a2 .now) (x .e2 .now) (x .f2 .now)) h, ready-fits (mesh (x .vertices .now) (x .positions .now) (x .arcs .now) (x .edges .now) (x .faces .now) (x .counters .now)) (room (x .v1 .now) (x .p1 .now) (x .a1 .now) (x .e1 .now) (x .f1 .now)) (room (x .v2 .now) (x .p2 .now) (x .a2 .now) (x .e2 .now) (x .f2 .now)) h)
 
 zero-set-requires : tie.Need-zero-set-requires
 zero-set-requires c κs = search needs

@@ -1,20 +1,25 @@
--- `mesh::call::perform` meets its contract: the place lemmas say what each piece left, and `performed` joins them. Assumes nothing.
+-- `mesh::call::perform` meets its contract: what is decided first, then the work, in room or not. Assumes nothing.
 use Prim.Native.Nat.{ℕ, _≤_}
+use native.Mathlib.Omega.{arith}
 use mathlib.Core.Path.{_≡_, refl, ap, sym, _∙_}
 use mathlib.Core.List.{List}
 use lib.ListN.{length}
 use borrow.Author.Needs.{needs}
 use borrow.Author.Tests.{not-true, not-false}
 use Rattle.rules.specs.declared.Answer.{Answer}
-use Rattle.rules.specs.Mesh.{Mesh, mesh, Room, room}
-use Rattle.rules.specs.Step.{Step, step, accepted}
-use Rattle.tables.specs.Sets.{setOver}
-use Rattle.order.specs.Transaction.{left, over, SameSize, beforeWork}
-use Rattle.rules.specs.Call.{work, worked, decided}
+use Rattle.rules.specs.Mesh.{mesh}
+use Rattle.rules.specs.Step.{step, accepted}
+use Rattle.order.specs.Transaction.{left}
 use Rattle.mesh.proofs.Calling.{performed, not-performed, few-keys}
-use Rattle.order.proofs.Settling.{meshOf, roomOf, size-back, copied}
+use Rattle.mesh.proofs.Keeping.{in-place}
 use Rattle.mesh.proofs.call.perform.Statement.{statement}
 use Rattle.mesh.proofs.call.perform.Tie as tie
+
+three : (k : List ℕ) → length k ≡ 3 → 3 ≤ length k
+three k e = omega (arith, e)
+
+known-three-requires : tie.Need-known-three-requires
+known-three-requires c κs = search needs
 
 decide-requires : tie.Need-decide-requires
 decide-requires c κs = search needs
@@ -39,29 +44,17 @@ same-length-5 c = search needs
 
 returns : tie.Need-returns
 returns c =
-    let x = c .before .before .before .before .before .before .before .before .before .before .args in
+    let x = c .before .before .before .before .before .before .before .before .before .before .before .before .args in
     ap (λ (y : Answer). left y (mesh (x .vertices .now) (x .positions .now) (x .arcs .now) (x .edges .now) (x .faces .now) (x .counters .now))) (c .before .before .decide .ensures)
     ∙ not-performed (mesh (x .vertices .now) (x .positions .now) (x .arcs .now) (x .edges .now) (x .faces .now) (x .counters .now)) (x .edit) (x .keys .now) (ap accepted (sym (c .before .before .decide .ensures)) ∙ sym (c .before .accepted .ensures) ∙ not-true _ (c .if1 .taken))
 
-copy-set-requires : tie.Need-copy-set-requires
-copy-set-requires c κs = search needs
+keeps-sound-requires : tie.Need-keeps-sound-requires
+keeps-sound-requires c κs = search needs
 
 work-requires : tie.Need-work-requires
 work-requires c κs =
-    let x = c .before .before .before .before .before .before .before .before .before .before .before .before .before .before .before .before .before .before .before .before .before .before .before .before .before .before .before .before .before .before .before .before .before .before .before .args in
-    let o = c .before .before .before .before .before .before .before .before .before .before .before .before .before .before .copy-set in
-    let z = c .before .before .before .before .before .before .before .before .before .before .before .before .before .before .before .before .before .before .before .before .before .before .before .before .before .before .before .before .before .before .before .before .before .before .before .pre in
-    let passed = ap accepted (sym (c .before .before .before .before .before .before .before .before .before .before .before .before .before .before .before .before .before .before .before .before .before .before .before .before .before .before .before .decide .ensures)) ∙ sym (c .before .before .before .before .before .before .before .before .before .before .before .before .before .before .before .before .before .before .before .before .before .before .before .before .before .before .accepted .ensures) ∙ not-false _ (c .before .before .before .before .before .before .before .before .before .before .before .before .before .before .before .before .before .before .before .before .before .before .before .before .before .if1 .left) in (
-      (z .1 .0 ∙ z .0 .arcs ∙ sym (o .kept .1 .1 .0), z .1 .1 ∙ z .0 .edges ∙ sym (o .kept .1 .1 .1 .0)),
-      few-keys (mesh (x .vertices .now) (x .positions .now) (x .arcs .now) (x .edges .now) (x .faces .now) (x .counters .now)) (x .edit) (x .keys .now) passed,
-    )
-
-settle-requires : tie.Need-settle-requires
-settle-requires c κs =
-    let o = c .before .before .before .before .before .before .before .before .before .before .before .before .before .before .before .before .before .before .before .before .before .before .before .before .before .before .before .before .before .before .before .before .before .copy-set in
-    let w = c .before .before .before .before .before .before .before .before .before .before .before .before .before .before .before .before .before .before .work in
-    let z = c .before .before .before .before .before .before .before .before .before .before .before .before .before .before .before .before .before .before .before .before .before .before .before .before .before .before .before .before .before .before .before .before .before .before .before .before .before .before .before .before .before .before .before .before .before .before .before .before .before .before .before .before .before .before .pre .0 in
-    record { vertices = z .vertices ∙ sym (w .kept .0 ∙ o .kept .0); positions = z .positions ∙ sym (w .kept .1 .0 ∙ o .kept .1 .0); arcs = z .arcs ∙ sym (w .kept .1 .1 .0 ∙ o .kept .1 .1 .0); edges = z .edges ∙ sym (w .kept .1 .1 .1 .0 ∙ o .kept .1 .1 .1 .0); faces = z .faces ∙ sym (w .kept .1 .1 .1 .1 .0 ∙ o .kept .1 .1 .1 .1 .0) }
+    let x = c .before .before .before .before .before .before .before .before .before .before .before .before .before .before .before .before .before .before .before .before .before .before .args in
+    (c .before .before .before .before .before .before .before .before .before .before .before .before .before .before .before .before .before .before .before .before .before .before .pre .1 .1, few-keys (mesh (x .vertices .now) (x .positions .now) (x .arcs .now) (x .edges .now) (x .faces .now) (x .counters .now)) (x .edit) (x .keys .now) (ap accepted (sym (c .before .before .before .before .before .before .before .before .before .before .before .before .decide .ensures)) ∙ sym (c .before .before .before .before .before .before .before .before .before .before .before .accepted .ensures) ∙ not-false _ (c .before .before .before .before .before .before .before .before .before .before .if1 .left)))
 
 same-length-6 : tie.Need-same-length-6
 same-length-6 c = search needs
@@ -79,19 +72,31 @@ same-length-10 : tie.Need-same-length-10
 same-length-10 c = search needs
 
 same-length-11 : tie.Need-same-length-11
-same-length-11 c = c .before .before .before .before .before .before .before .before .before .before .before .before .before .before .before .before .before .before .before .before .before .before .before .before .work .kept .0 ∙ c .before .before .before .before .before .before .before .before .before .before .before .before .before .before .before .before .before .before .before .before .before .before .before .before .before .before .before .before .before .before .before .before .before .before .before .before .before .before .before .copy-set .kept .0
+same-length-11 c = search needs
 
 same-length-12 : tie.Need-same-length-12
-same-length-12 c = c .before .before .before .before .before .before .before .before .before .before .before .before .before .before .before .before .before .before .before .before .before .before .before .before .work .kept .1 .0 ∙ c .before .before .before .before .before .before .before .before .before .before .before .before .before .before .before .before .before .before .before .before .before .before .before .before .before .before .before .before .before .before .before .before .before .before .before .before .before .before .before .copy-set .kept .1 .0
+same-length-12 c = search needs
+
+returns-2 : tie.Need-returns-2
+returns-2 c =
+    let x = c .before .before .before .before .before .before .before .before .before .before .before .before .before .before .before .before .before .before .before .before .before .before .before .before .before .before .before .before .before .before .args in
+    let w = c .before .before .before .before .before .before .before .work in
+    in-place (mesh (x .vertices .now) (x .positions .now) (x .arcs .now) (x .edges .now) (x .faces .now) (x .counters .now)) (x .edit) (x .keys .now) (step (mesh (w .last .0) (w .last .1 .0) (w .last .1 .1 .0) (w .last .1 .1 .1 .0) (w .last .1 .1 .1 .1 .0) (w .last .1 .1 .1 .1 .1 .0)) (w .result)) (three (x .counters .now) (c .before .before .before .before .before .before .before .before .before .before .before .before .before .before .before .before .before .before .before .before .before .before .before .before .before .before .before .known-three .ensures)) (c .before .before .before .before .before .before .before .before .before .before .before .before .before .before .before .before .before .before .before .before .before .before .before .before .before .before .before .before .before .before .pre .0) (ap accepted (sym (c .before .before .before .before .before .before .before .before .before .before .before .before .before .before .before .before .before .before .before .before .decide .ensures)) ∙ sym (c .before .before .before .before .before .before .before .before .before .before .before .before .before .before .before .before .before .before .before .accepted .ensures) ∙ not-false _ (c .before .before .before .before .before .before .before .before .before .before .before .before .before .before .before .before .before .before .if1 .left)) (sym (c .before .before .before .before .before .before .before .before .before .before .before .before .before .before .before .before .before .keeps-sound .ensures) ∙ c .before .before .before .before .before .before .before .before .before .before .before .before .before .before .before .before .if2 .taken) (w .ensures)
+
+work-in-room-requires : tie.Need-work-in-room-requires
+work-in-room-requires c κs =
+    let x = c .before .before .before .before .before .before .before .before .before .before .before .before .before .before .before .before .before .before .before .before .before .before .before .before .before .before .before .args in
+    let z = c .before .before .before .before .before .before .before .before .before .before .before .before .before .before .before .before .before .before .before .before .before .before .before .before .before .before .before .pre in
+    (z .0, (z .1 .0, (z .1 .1, few-keys (mesh (x .vertices .now) (x .positions .now) (x .arcs .now) (x .edges .now) (x .faces .now) (x .counters .now)) (x .edit) (x .keys .now) (ap accepted (sym (c .before .before .before .before .before .before .before .before .before .before .before .before .before .before .before .before .before .decide .ensures)) ∙ sym (c .before .before .before .before .before .before .before .before .before .before .before .before .before .before .before .before .accepted .ensures) ∙ not-false _ (c .before .before .before .before .before .before .before .before .before .before .before .before .before .before .before .if1 .left)))))
 
 same-length-13 : tie.Need-same-length-13
-same-length-13 c = c .before .before .before .before .before .before .before .before .before .before .before .before .before .before .before .before .before .before .before .before .before .before .before .before .work .kept .1 .1 .0 ∙ c .before .before .before .before .before .before .before .before .before .before .before .before .before .before .before .before .before .before .before .before .before .before .before .before .before .before .before .before .before .before .before .before .before .before .before .before .before .before .before .copy-set .kept .1 .1 .0
+same-length-13 c = search needs
 
 same-length-14 : tie.Need-same-length-14
-same-length-14 c = c .before .before .before .before .before .before .before .before .before .before .before .before .before .before .before .before .before .before .before .before .before .before .before .before .work .kept .1 .1 .1 .0 ∙ c .before .before .before .before .before .before .before .before .before .before .before .before .before .before .before .before .before .before .before .before .before .before .before .before .before .before .before .before .before .before .before .before .before .before .before .before .before .before .before .copy-set .kept .1 .1 .1 .0
+same-length-14 c = search needs
 
 same-length-15 : tie.Need-same-length-15
-same-length-15 c = c .before .before .before .before .before .before .before .before .before .before .before .before .before .before .before .before .before .before .before .before .before .before .before .before .work .kept .1 .1 .1 .1 .0 ∙ c .before .before .before .before .before .before .before .before .before .before .before .before .before .before .before .before .before .before .before .before .before .before .before .before .before .before .before .before .before .before .before .before .before .before .before .before .before .before .before .copy-set .kept .1 .1 .1 .1 .0
+same-length-15 c = search needs
 
 same-length-16 : tie.Need-same-length-16
 same-length-16 c = search needs
@@ -99,36 +104,38 @@ same-length-16 c = search needs
 same-length-17 : tie.Need-same-length-17
 same-length-17 c = search needs
 
-at-copy : (c : tie.After-copy-set) → room (c .copy-set .last .0) (c .copy-set .last .1 .0) (c .copy-set .last .1 .1 .0) (c .copy-set .last .1 .1 .1 .0) (c .copy-set .last .1 .1 .1 .1 .0) ≡ roomOf (mesh ((c .before .before .before .before .before .before .before .before .before .before .before .before .before .before .before .before .before .before .before .before .before .args) .vertices .now) ((c .before .before .before .before .before .before .before .before .before .before .before .before .before .before .before .before .before .before .before .before .before .args) .positions .now) ((c .before .before .before .before .before .before .before .before .before .before .before .before .before .before .before .before .before .before .before .before .before .args) .arcs .now) ((c .before .before .before .before .before .before .before .before .before .before .before .before .before .before .before .before .before .before .before .before .before .args) .edges .now) ((c .before .before .before .before .before .before .before .before .before .before .before .before .before .before .before .before .before .before .before .before .before .args) .faces .now) ((c .before .before .before .before .before .before .before .before .before .before .before .before .before .before .before .before .before .before .before .before .before .args) .counters .now))
-at-copy c =
-    let x = c .before .before .before .before .before .before .before .before .before .before .before .before .before .before .before .before .before .before .before .before .before .args in
-    copied (mesh (x .vertices .now) (x .positions .now) (x .arcs .now) (x .edges .now) (x .faces .now) (x .counters .now)) (mesh (x .v .now) (x .p .now) (x .a .now) (x .e .now) (x .f .now) (x .counters .now)) (room (c .copy-set .last .0) (c .copy-set .last .1 .0) (c .copy-set .last .1 .1 .0) (c .copy-set .last .1 .1 .1 .0) (c .copy-set .last .1 .1 .1 .1 .0))
-    (size-back (mesh (x .vertices .now) (x .positions .now) (x .arcs .now) (x .edges .now) (x .faces .now) (x .counters .now)) (mesh (x .v .now) (x .p .now) (x .a .now) (x .e .now) (x .f .now) (x .counters .now)) (c .before .before .before .before .before .before .before .before .before .before .before .before .before .before .before .before .before .before .before .before .before .pre .0))
-    (c .copy-set .ensures)
+same-length-18 : tie.Need-same-length-18
+same-length-18 c = search needs
 
-at-work : (c : tie.After-work) → step (mesh (c .work .last .0) (c .work .last .1 .0) (c .work .last .1 .1 .0) (c .work .last .1 .1 .1 .0) (c .work .last .1 .1 .1 .1 .0) (c .work .last .1 .1 .1 .1 .1 .0)) (c .work .result)
-    ≡ work (mesh ((c .before .before .before .before .before .before .before .before .before .before .before .before .before .before .before .copy-set) .last .0) ((c .before .before .before .before .before .before .before .before .before .before .before .before .before .before .before .copy-set) .last .1 .0) ((c .before .before .before .before .before .before .before .before .before .before .before .before .before .before .before .copy-set) .last .1 .1 .0) ((c .before .before .before .before .before .before .before .before .before .before .before .before .before .before .before .copy-set) .last .1 .1 .1 .0) ((c .before .before .before .before .before .before .before .before .before .before .before .before .before .before .before .copy-set) .last .1 .1 .1 .1 .0) (c .before .before .before .before .before .before .before .before .before .before .before .before .before .before .before .before .before .before .before .before .before .before .before .before .before .before .before .before .before .before .before .before .before .before .before .before .args .counters .now)) (c .before .before .before .before .before .before .before .before .before .before .before .before .before .before .before .before .before .before .before .before .before .before .before .before .before .before .before .before .before .before .before .before .before .before .before .before .args .edit) (c .before .before .before .before .before .before .before .before .before .before .before .before .before .before .before .before .before .before .before .before .before .before .before .before .before .before .before .before .before .before .before .before .before .before .before .before .args .keys .now)
-at-work c = c .work .ensures
+same-length-19 : tie.Need-same-length-19
+same-length-19 c = search needs
 
-at-settle : (c : tie.After-settle) → left (c .settle .result) (mesh (c .settle .last .0) (c .settle .last .1 .0) (c .settle .last .1 .1 .0) (c .settle .last .1 .1 .1 .0) (c .settle .last .1 .1 .1 .1 .0) (c .settle .last .1 .1 .1 .1 .1 .0))
-    ≡ over (mesh ((c .before .before .before .before .before .before .before .before .before .before .before .before .before .before .before .before .before .before .before .before .before .before .before .before .before .before .before .before .before .before .before .before .before .before .before .before .before .before .before .before .before .before .before .before .before .before .before .before .before .before .before .before .before .before .before .args) .vertices .now) ((c .before .before .before .before .before .before .before .before .before .before .before .before .before .before .before .before .before .before .before .before .before .before .before .before .before .before .before .before .before .before .before .before .before .before .before .before .before .before .before .before .before .before .before .before .before .before .before .before .before .before .before .before .before .before .before .args) .positions .now) ((c .before .before .before .before .before .before .before .before .before .before .before .before .before .before .before .before .before .before .before .before .before .before .before .before .before .before .before .before .before .before .before .before .before .before .before .before .before .before .before .before .before .before .before .before .before .before .before .before .before .before .before .before .before .before .before .args) .arcs .now) ((c .before .before .before .before .before .before .before .before .before .before .before .before .before .before .before .before .before .before .before .before .before .before .before .before .before .before .before .before .before .before .before .before .before .before .before .before .before .before .before .before .before .before .before .before .before .before .before .before .before .before .before .before .before .before .before .args) .edges .now) ((c .before .before .before .before .before .before .before .before .before .before .before .before .before .before .before .before .before .before .before .before .before .before .before .before .before .before .before .before .before .before .before .before .before .before .before .before .before .before .before .before .before .before .before .before .before .before .before .before .before .before .before .before .before .before .before .args) .faces .now) ((c .before .before .before .before .before .before .before .before .before .before .before .before .before .before .before .before .before .before .before .before .before .before .before .before .before .before .before .before .before .before .before .before .before .before .before .before .before .before .before .before .before .before .before .before .before .before .before .before .before .before .before .before .before .before .before .args) .counters .now)) (worked (step (mesh ((c .before .before .before .before .before .before .before .before .before .before .before .before .before .before .before .before .before .before .before .work) .last .0) ((c .before .before .before .before .before .before .before .before .before .before .before .before .before .before .before .before .before .before .before .work) .last .1 .0) ((c .before .before .before .before .before .before .before .before .before .before .before .before .before .before .before .before .before .before .before .work) .last .1 .1 .0) ((c .before .before .before .before .before .before .before .before .before .before .before .before .before .before .before .before .before .before .before .work) .last .1 .1 .1 .0) ((c .before .before .before .before .before .before .before .before .before .before .before .before .before .before .before .before .before .before .before .work) .last .1 .1 .1 .1 .0) ((c .before .before .before .before .before .before .before .before .before .before .before .before .before .before .before .before .before .before .before .work) .last .1 .1 .1 .1 .1 .0)) (c .before .before .before .before .before .before .before .before .before .before .before .before .before .before .before .before .before .before .before .work .result)))
-at-settle c = c .settle .ensures
+same-length-20 : tie.Need-same-length-20
+same-length-20 c = search needs
 
-returns-2 : tie.Need-returns-2
-returns-2 c =
-    let x = c .before .before .before .before .before .before .before .before .before .before .before .before .before .before .before .before .before .before .before .before .before .before .before .before .before .before .before .before .before .before .before .before .before .before .before .before .before .before .before .before .before .before .before .before .before .before .before .before .before .before .before .before .before .before .before .before .before .before .before .before .args in
-    let w = c .before .before .before .before .before .before .before .before .before .before .before .before .before .before .before .before .before .before .before .before .before .before .before .before .work in
-    let t = c .before .before .before .before .before .settle in
-    let o = c .before .before .before .before .before .before .before .before .before .before .before .before .before .before .before .before .before .before .before .before .before .before .before .before .before .before .before .before .before .before .before .before .before .before .before .before .before .before .before .copy-set in
-    performed (mesh (x .vertices .now) (x .positions .now) (x .arcs .now) (x .edges .now) (x .faces .now) (x .counters .now)) (mesh (o .last .0) (o .last .1 .0) (o .last .1 .1 .0) (o .last .1 .1 .1 .0) (o .last .1 .1 .1 .1 .0) (x .counters .now)) (x .edit) (x .keys .now) (step (mesh (w .last .0) (w .last .1 .0) (w .last .1 .1 .0) (w .last .1 .1 .1 .0) (w .last .1 .1 .1 .1 .0) (w .last .1 .1 .1 .1 .1 .0)) (w .result)) (left (t .result) (mesh (t .last .0) (t .last .1 .0) (t .last .1 .1 .0) (t .last .1 .1 .1 .0) (t .last .1 .1 .1 .1 .0) (t .last .1 .1 .1 .1 .1 .0)))
-    (ap accepted (sym (c .before .before .before .before .before .before .before .before .before .before .before .before .before .before .before .before .before .before .before .before .before .before .before .before .before .before .before .before .before .before .before .before .before .before .before .before .before .before .before .before .before .before .before .before .before .before .before .before .before .before .before .before .decide .ensures)) ∙ sym (c .before .before .before .before .before .before .before .before .before .before .before .before .before .before .before .before .before .before .before .before .before .before .before .before .before .before .before .before .before .before .before .before .before .before .before .before .before .before .before .before .before .before .before .before .before .before .before .before .before .before .before .accepted .ensures) ∙ not-false _ (c .before .before .before .before .before .before .before .before .before .before .before .before .before .before .before .before .before .before .before .before .before .before .before .before .before .before .before .before .before .before .before .before .before .before .before .before .before .before .before .before .before .before .before .before .before .before .before .before .before .before .if1 .left))
-    (ap (λ (r : Room). meshOf r (x .counters .now)) (at-copy (c .before .before .before .before .before .before .before .before .before .before .before .before .before .before .before .before .before .before .before .before .before .before .before .before .before .before .before .before .before .before .before .before .before .before .before .before .before .before .before)))
-    (at-work (c .before .before .before .before .before .before .before .before .before .before .before .before .before .before .before .before .before .before .before .before .before .before .before .before)) (at-settle (c .before .before .before .before .before))
+same-length-21 : tie.Need-same-length-21
+same-length-21 c = search needs
+
+same-length-22 : tie.Need-same-length-22
+same-length-22 c = search needs
+
+same-length-23 : tie.Need-same-length-23
+same-length-23 c = search needs
+
+same-length-24 : tie.Need-same-length-24
+same-length-24 c = search needs
+
+returns-3 : tie.Need-returns-3
+returns-3 c =
+    let x = c .before .before .before .before .before .before .before .before .before .before .before .before .before .before .before .before .before .before .before .before .before .before .before .before .before .before .before .before .before .before .before .before .before .before .before .before .before .before .before .before .args in
+    let g = c .before .before .before .before .before .before .before .before .before .before .before .before .work-in-room in
+    performed (mesh (x .vertices .now) (x .positions .now) (x .arcs .now) (x .edges .now) (x .faces .now) (x .counters .now)) (x .edit) (x .keys .now) (left (g .result) (mesh (g .last .0) (g .last .1 .0) (g .last .1 .1 .0) (g .last .1 .1 .1 .0) (g .last .1 .1 .1 .1 .0) (g .last .1 .1 .1 .1 .1 .0))) (ap accepted (sym (c .before .before .before .before .before .before .before .before .before .before .before .before .before .before .before .before .before .before .before .before .before .before .before .before .before .before .before .before .before .before .decide .ensures)) ∙ sym (c .before .before .before .before .before .before .before .before .before .before .before .before .before .before .before .before .before .before .before .before .before .before .before .before .before .before .before .before .before .accepted .ensures) ∙ not-false _ (c .before .before .before .before .before .before .before .before .before .before .before .before .before .before .before .before .before .before .before .before .before .before .before .before .before .before .before .before .if1 .left)) (g .ensures)
 
 pub perform-spec : {M : Type 1} → statement M
 perform-spec =
     tie.close
     (tie.spec
+    known-three-requires
     decide-requires
     accepted-requires
     same-length
@@ -137,9 +144,8 @@ perform-spec =
     same-length-4
     same-length-5
     returns
-    copy-set-requires
+    keeps-sound-requires
     work-requires
-    settle-requires
     same-length-6
     same-length-7
     same-length-8
@@ -147,9 +153,18 @@ perform-spec =
     same-length-10
     same-length-11
     same-length-12
+    returns-2
+    work-in-room-requires
     same-length-13
     same-length-14
     same-length-15
     same-length-16
     same-length-17
-    returns-2)
+    same-length-18
+    same-length-19
+    same-length-20
+    same-length-21
+    same-length-22
+    same-length-23
+    same-length-24
+    returns-3)
