@@ -19,10 +19,11 @@ needs_cargo = $(call needs,cargo,Install Rust.)
 needs_python = $(call needs,python3,Install Python 3.)
 needs_cc = $(call needs,$(CC),Install a C compiler.)
 
-# The last line printed is rt's own: N passed, M failed.
+# The last line printed is rt's own: N passed, M failed. rt waits for all crates of a batch before it starts the next: batches of four keep two
+# cores busy where batches of two do not. RT_JOBS sets another number.
 test:
 	@$(needs_rt)
-	@exec rt ci
+	@RT_JOBS=$${RT_JOBS:-4} exec rt ci
 
 # ---- programs
 
