@@ -123,5 +123,6 @@ bench: archive $(ORACLE_BUILD)/oracle
 	@if [ -z '$(LIB)' ]; then \
 	  $(MAKE) --no-print-directory target/staticlib/libtablebench.a || exit 1; \
 	  $(CC) -O2 -o target/bench-tables bench/tables.c target/staticlib/libtablebench.a && target/bench-tables && echo; fi
+	@$(CC) -std=c11 -O2 -Iinclude -o target/bench-calls bench/calls.c '$(ARCHIVE)' && target/bench-calls && echo
 	@ln -sfn '$(ORACLE_BUILD)/tree' target/plexus
 	@$(CARGO) run --quiet --release --offline --manifest-path bench/Cargo.toml
