@@ -5,3 +5,4 @@ pub mod Stretches
 pub mod Splits
 pub mod Ends
 pub mod Named
+pub mod Most

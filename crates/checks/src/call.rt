@@ -29,6 +29,7 @@ ghost use Rattle.rules.specs.declared.Edit.the-variants.{FaceInsert};
 ghost use Rattle.rules.specs.Table.{Table};
 ghost use Rattle.rules.specs.Mesh.{mesh, listOf};
 ghost use Rattle.rules.specs.Call as Call;
+ghost use Rattle.checks.specs.Most.{AtMost, most};
 
 // ---- 2 for what the caller gave
 
@@ -168,24 +169,16 @@ fn insert_need(arcs: &[ArcRow], per: Links) -> Need
     needs(0, insert::pairs_without(arcs, per), 1, 1)
 }
 
-// What each edit needs, where a face insert has at most 64 keys.
-pub fn need_of(
-    vertices: &[VertexRow],
-    arcs: &[ArcRow],
-    faces: &[FaceRow],
-    edit: Edit,
-    keys: &[u32],
-) -> Need
-    ensures { λ r. ⌜ (((mark : ℕ) → edit ≡ FaceInsert mark → length (now (keys .entry)) ≤ 64) → (ps : List (List Float)) (es : Table) (ks : List ℕ) → Call.needs (r .vertices) (r .edges) (r .faces) (r .facekeys) ≡ Call.need (mesh (now (vertices .entry)) ps (now (arcs .entry)) es (now (faces .entry)) ks) edit (now (keys .entry))) ⌝ }
+// What an edit needs at most, told without a search among the arcs: a face insert one edge for each key, a split one, an arc bridge four; any
+// other edit what it needs.
+pub fn most_of(arcs: &[ArcRow], faces: &[FaceRow], edit: Edit, keys: &[u32]) -> Need
+    ensures { λ r. ⌜ ((vs : Table) (ps : List (List Float)) (es : Table) (ks : List ℕ) → (Call.needs (r .vertices) (r .edges) (r .faces) (r .facekeys) ≡ most (mesh vs ps (now (arcs .entry)) es (now (faces .entry)) ks) edit (now (keys .entry))) × AtMost (Call.need (mesh vs ps (now (arcs .entry)) es (now (faces .entry)) ks) edit (now (keys .entry))) (Call.needs (r .vertices) (r .edges) (r .faces) (r .facekeys))) ⌝ }
 {
     match edit {
         Edit::VertexInsert(_) => needs(1, 0, 0, 0),
-        Edit::FaceInsert(_) => insert_need(arcs, by_keys(vertices, keys)),
+        Edit::FaceInsert(_) => needs(0, keys.len(), 1, 1),
         Edit::FaceRemove(_) => needs(0, 0, 0, 0),
-        Edit::FaceSplit(_, s, d) => {
-            let x = arc_by_keys(vertices, arcs, s, d);
-            needs(0, insert::one_if_none(x), 1, 2)
-        }
+        Edit::FaceSplit(_, _, _) => needs(0, 1, 1, 2),
         Edit::FacePoke(f, _) => {
             let n = rings::arity_of(arcs, faces, rows::find_key3(faces, f));
             needs(1, n, split::left_of(n, 1), n)
@@ -198,12 +191,33 @@ pub fn need_of(
             let n = rings::arity_of(arcs, faces, rows::find_key3(faces, f));
             needs(n, 2 * n, n, n + 1)
         }
+        Edit::ArcBridge(_, _, _, _) => needs(0, 4, 1, 1),
+        Edit::ArcExtrude(_, _, _) => needs(2, 3, 1, 1),
+    }
+}
+
+// What each edit needs, where a face insert has at most 64 keys.
+pub fn need_of(
+    vertices: &[VertexRow],
+    arcs: &[ArcRow],
+    faces: &[FaceRow],
+    edit: Edit,
+    keys: &[u32],
+) -> Need
+    ensures { λ r. ⌜ (((mark : ℕ) → edit ≡ FaceInsert mark → length (now (keys .entry)) ≤ 64) → (ps : List (List Float)) (es : Table) (ks : List ℕ) → Call.needs (r .vertices) (r .edges) (r .faces) (r .facekeys) ≡ Call.need (mesh (now (vertices .entry)) ps (now (arcs .entry)) es (now (faces .entry)) ks) edit (now (keys .entry))) ⌝ }
+{
+    match edit {
+        Edit::FaceInsert(_) => insert_need(arcs, by_keys(vertices, keys)),
+        Edit::FaceSplit(_, s, d) => {
+            let x = arc_by_keys(vertices, arcs, s, d);
+            needs(0, insert::one_if_none(x), 1, 2)
+        }
         Edit::ArcBridge(a, b, c, d) => {
             let x = arc_by_keys(vertices, arcs, a, b);
             let y = arc_by_keys(vertices, arcs, c, d);
             insert_need(arcs, bridge::corner_list(bridge::corners_of(arcs, x, y)))
         }
-        Edit::ArcExtrude(_, _, _) => needs(2, 3, 1, 1),
+        _ => most_of(arcs, faces, edit, keys),
     }
 }
 

@@ -10,7 +10,7 @@ use Rattle.rules.specs.declared.Edit.{Edit}
 use Rattle.rules.specs.Mesh.{Mesh, Room}
 use Rattle.rules.specs.Step.{accepted}
 use Rattle.rules.specs.Sound.{sound}
-use Rattle.rules.specs.Call.{Need, given, checks, movesFinite, roomFor, need, ready, roomEnough}
+use Rattle.rules.specs.Call.{given, checks, movesFinite, roomFor, need, ready, roomEnough}
 use Rattle.order.specs.Transaction.{beforeWork}
 
 module _ (m : Mesh) (e : Edit) (keys : List ℕ) where
@@ -31,14 +31,14 @@ module _ (m : Mesh) (e : Edit) (keys : List ℕ) where
       unfolding beforeWork
       not-moves f = rw (g, passed, f)
 
-      module _ (f : movesFinite m e ≡ true) (n : Need) (en : n ≡ need m e keys) where
-        pub not-room : roomFor m n ≡ false → Refused NoRoom ≡ beforeWork m e keys
+      module _ (f : movesFinite m e ≡ true) where
+        pub not-room : roomFor m (need m e keys) ≡ false → Refused NoRoom ≡ beforeWork m e keys
         unfolding beforeWork
-        not-room r = rw (g, passed, f, ap (roomFor m) (sym en) ∙ r)
+        not-room r = rw (g, passed, f, r)
 
-        pub all-passed : roomFor m n ≡ true → Done ≡ beforeWork m e keys
+        pub all-passed : roomFor m (need m e keys) ≡ true → Done ≡ beforeWork m e keys
         unfolding beforeWork
-        all-passed r = rw (g, passed, f, ap (roomFor m) (sym en) ∙ r)
+        all-passed r = rw (g, passed, f, r)
 
 -- ---- whether a call can begin
 

@@ -12,8 +12,13 @@ use rules::VertexRow;
 use tables::answers;
 use tables::sets;
 ghost use mathlib.Core.Path.{_≡_};
+ghost use mathlib.Core.List.{List};
+ghost use Prim.Native.Nat.{ℕ, _≤_};
+ghost use lib.ListN.{length};
+ghost use lib.Ieee.{Float};
+ghost use Rattle.rules.specs.declared.Edit.the-variants.{FaceInsert};
 ghost use Rattle.rules.specs.Mesh.{mesh, room};
-ghost use Rattle.rules.specs.Call.{ready};
+ghost use Rattle.rules.specs.Call.{ready, roomFor, need};
 ghost use Rattle.order.specs.Transaction.{beforeWork};
 
 // Sizes, limits and soundness of the mesh, and rooms that are not too small.
@@ -46,6 +51,27 @@ pub fn is_ready(
     sound::queries::is_sound(vertices, positions, arcs, edges, faces, counters)
 }
 
+// 7: whether there is room for what the edit needs, where a face insert has at most 64 keys. The most that it can need is asked first, since that
+// is told without a search; only where the most is not there is the need itself counted.
+fn has_room(
+    vertices: &[VertexRow],
+    arcs: &[ArcRow],
+    edges: &[EdgeRow],
+    faces: &[FaceRow],
+    counters: &[u32; 3],
+    edit: Edit,
+    keys: &[u32],
+) -> bool
+    ensures { λ r. ⌜ (((mark : ℕ) → edit ≡ FaceInsert mark → length (now (keys .entry)) ≤ 64) → (ps : List (List Float)) → r ≡ roomFor (mesh (now (vertices .entry)) ps (now (arcs .entry)) (now (edges .entry)) (now (faces .entry)) (now (counters .entry))) (need (mesh (now (vertices .entry)) ps (now (arcs .entry)) (now (edges .entry)) (now (faces .entry)) (now (counters .entry))) edit (now (keys .entry)))) ⌝ }
+{
+    let most = checks::call::most_of(arcs, faces, edit, keys);
+    if checks::call::room_for(vertices, edges, faces, counters, most) {
+        return true;
+    }
+    let need = checks::call::need_of(vertices, arcs, faces, edit, keys);
+    checks::call::room_for(vertices, edges, faces, counters, need)
+}
+
 // What is decided before the first change: a refusal, or done.
 pub fn decide(
     vertices: &[VertexRow],
@@ -69,8 +95,7 @@ pub fn decide(
     if !checks::call::moves_finite(vertices, positions, arcs, faces, edit) {
         return Answer::Refused(Refusal::Argument);
     }
-    let need = checks::call::need_of(vertices, arcs, faces, edit, keys);
-    if !checks::call::room_for(vertices, edges, faces, counters, need) {
+    if !has_room(vertices, arcs, edges, faces, counters, edit, keys) {
         return Answer::Refused(Refusal::NoRoom);
     }
     Answer::Done

@@ -1,36 +1,22 @@
--- `checks::call::need_of` meets its contract. Each arm by its variant; a ring has at most 64 arcs, so no product or sum wraps. Assumes nothing.
+-- `checks::call::need_of` meets its contract. Each arm by its variant; any other edit by what it needs at most. Assumes nothing.
 use borrow.Author.Needs.{needs}
 use Rattle.checks.proofs.call.need_of.Statement.{statement}
 use Rattle.checks.proofs.call.need_of.Tie as tie
 use Prim.Native.Nat.{_-_}
-use native.Mathlib.Omega.{arith}
 use mathlib.Core.Path.{ap, _∙_}
-use mathlib.Core.List.{[]}
 use Rattle.rules.specs.Mesh.{mesh, linksOf}
 use Rattle.rules.specs.Call.{need}
-use Rattle.checks.proofs.Bounds.{ring-few}
 use Rattle.checks.proofs.Pairs.{corners-back}
+use Rattle.checks.proofs.Most.{none-asked}
 
 enum-told : tie.Need-enum-told
 enum-told c = search needs
-
-needs-requires : tie.Need-needs-requires
-needs-requires c κs = search needs
-
-enum-told-2 : tie.Need-enum-told-2
-enum-told-2 c = search needs
 
 by-keys-requires : tie.Need-by-keys-requires
 by-keys-requires c κs = search needs
 
 insert-need-requires : tie.Need-insert-need-requires
 insert-need-requires c κs = search needs
-
-enum-told-3 : tie.Need-enum-told-3
-enum-told-3 c = search needs
-
-needs-requires-2 : tie.Need-needs-requires-2
-needs-requires-2 c κs = search needs
 
 enum-known-edit : tie.Need-enum-known-edit
 enum-known-edit c = search needs
@@ -41,63 +27,11 @@ arc-by-keys-requires c κs = search needs
 one-if-none-requires : tie.Need-one-if-none-requires
 one-if-none-requires c κs = search needs
 
-needs-requires-3 : tie.Need-needs-requires-3
-needs-requires-3 c κs = search needs
+needs-requires : tie.Need-needs-requires
+needs-requires c κs = search needs
 
 enum-known-edit-2 : tie.Need-enum-known-edit-2
 enum-known-edit-2 c = search needs
-
-find-key3-requires : tie.Need-find-key3-requires
-find-key3-requires c κs = search needs
-
-arity-of-requires : tie.Need-arity-of-requires
-arity-of-requires c κs = search needs
-
-left-of-requires : tie.Need-left-of-requires
-left-of-requires c κs = search needs
-
-needs-requires-4 : tie.Need-needs-requires-4
-needs-requires-4 c κs = search needs
-
-enum-known-edit-3 : tie.Need-enum-known-edit-3
-enum-known-edit-3 c = search needs
-
-find-key3-requires-2 : tie.Need-find-key3-requires-2
-find-key3-requires-2 c κs = search needs
-
-arity-of-requires-2 : tie.Need-arity-of-requires-2
-arity-of-requires-2 c κs = search needs
-
-left-of-requires-2 : tie.Need-left-of-requires-2
-left-of-requires-2 c κs = search needs
-
-needs-requires-5 : tie.Need-needs-requires-5
-needs-requires-5 c κs = search needs
-
-enum-known-edit-4 : tie.Need-enum-known-edit-4
-enum-known-edit-4 c = search needs
-
-find-key3-requires-3 : tie.Need-find-key3-requires-3
-find-key3-requires-3 c κs = search needs
-
-arity-of-requires-3 : tie.Need-arity-of-requires-3
-arity-of-requires-3 c κs = search needs
-
-mul-needs : tie.Need-mul-needs
-mul-needs c =
-    let a = c .before .before .before .before .before .before .args in
-    omega (arith, c .arity-of3 .ensures [] [] [] [], ring-few (mesh [] [] (a .arcs .now) [] (a .faces .now) []) (c .before .find-key33 .result))
-
-add-needs : tie.Need-add-needs
-add-needs c =
-    let a = c .before .before .before .before .before .before .args in
-    omega (arith, c .arity-of3 .ensures [] [] [] [], ring-few (mesh [] [] (a .arcs .now) [] (a .faces .now) []) (c .before .find-key33 .result))
-
-needs-requires-6 : tie.Need-needs-requires-6
-needs-requires-6 c κs = search needs
-
-enum-known-edit-5 : tie.Need-enum-known-edit-5
-enum-known-edit-5 c = search needs
 
 arc-by-keys-requires-2 : tie.Need-arc-by-keys-requires-2
 arc-by-keys-requires-2 c κs = search needs
@@ -114,99 +48,51 @@ corner-list-requires c κs = search needs
 insert-need-requires-2 : tie.Need-insert-need-requires-2
 insert-need-requires-2 c κs = search needs
 
-enum-told-4 : tie.Need-enum-told-4
-enum-told-4 c = search needs
-
-needs-requires-7 : tie.Need-needs-requires-7
-needs-requires-7 c κs = search needs
+most-of-requires : tie.Need-most-of-requires
+most-of-requires c κs = search needs
 
 returns : tie.Need-returns
 unfolding need
-returns c = λ few ps es ks. rw (c .before .enum-told .given .1) (c .needs .ensures)
+returns c =
+    let a = c .before .before .before .before .before .args in
+    λ few ps es ks. rw (c .before .before .enum-told .given .1, ← c .before .by-keys .ensures (few _ (c .before .before .enum-told .given .1)) ps (a .arcs .now) es (a .faces .now) ks) (c .insert-need .ensures (a .vertices .now) ps es (a .faces .now) ks)
 
 returns-2 : tie.Need-returns-2
 unfolding need
-returns-2 c =
-    let a = c .before .before .before .before .before .args in
-    λ few ps es ks. rw (c .before .before .enum-told2 .given .1, ← c .before .by-keys .ensures (few _ (c .before .before .enum-told2 .given .1)) ps (a .arcs .now) es (a .faces .now) ks) (c .insert-need .ensures (a .vertices .now) ps es (a .faces .now) ks)
+returns-2 c = λ few ps es ks. rw (c .before .before .before .before .edit .given .1, ← c .before .before .arc-by-keys .ensures ps es (c .before .before .before .before .before .before .before .args .faces .now) ks, ← c .before .one-if-none .ensures) (c .needs .ensures)
 
 returns-3 : tie.Need-returns-3
 unfolding need
-returns-3 c = λ few ps es ks. rw (c .before .enum-told3 .given .1) (c .needs2 .ensures)
-
-returns-4 : tie.Need-returns-4
-unfolding need
-returns-4 c = λ few ps es ks. rw (c .before .before .before .before .edit .given .1, ← c .before .before .arc-by-keys .ensures ps es (c .before .before .before .before .before .before .before .args .faces .now) ks, ← c .before .one-if-none .ensures) (c .needs3 .ensures)
-
-returns-5 : tie.Need-returns-5
-unfolding need
-returns-5 c = λ few ps es ks. rw (c .before .before .before .before .before .edit2 .given .1, ← c .before .before .before .find-key3 .ensures, ← c .before .before .arity-of .ensures (c .before .before .before .before .before .before .before .before .args .vertices .now) ps es ks, ← c .before .left-of .ensures) (c .needs4 .ensures)
-
-returns-6 : tie.Need-returns-6
-unfolding need
-returns-6 c = λ few ps es ks. rw (c .before .before .before .before .before .edit3 .given .1, ← c .before .before .before .find-key32 .ensures, ← c .before .before .arity-of2 .ensures (c .before .before .before .before .before .before .before .before .args .vertices .now) ps es ks, ← c .before .left-of2 .ensures) (c .needs5 .ensures)
-
-returns-7 : tie.Need-returns-7
-unfolding need
-returns-7 c = λ few ps es ks. rw (c .before .before .before .before .edit4 .given .1, ← c .before .before .find-key33 .ensures, ← c .before .arity-of3 .ensures (c .before .before .before .before .before .before .before .args .vertices .now) ps es ks) (c .needs6 .ensures)
-
-returns-8 : tie.Need-returns-8
-unfolding need
-returns-8 c =
+returns-3 c =
     let a = c .before .before .before .before .before .before .before .before .before .args in
     λ few ps es ks.
     let four = corners-back (mesh (a .vertices .now) ps (a .arcs .now) es (a .faces .now) ks) (c .before .before .before .before .arc-by-keys2 .result) (c .before .before .before .arc-by-keys3 .result) (c .before .corner-list .result) (c .before .corner-list .ensures ∙ ap linksOf (c .before .before .corners-of .ensures (a .vertices .now) ps es (a .faces .now) ks)) in
-    rw (c .before .before .before .before .before .before .edit5 .given .1, ← c .before .before .before .before .arc-by-keys2 .ensures ps es (a .faces .now) ks, ← c .before .before .before .arc-by-keys3 .ensures ps es (a .faces .now) ks, ← four) (c .insert-need2 .ensures (a .vertices .now) ps es (a .faces .now) ks)
+    rw (c .before .before .before .before .before .before .edit2 .given .1, ← c .before .before .before .before .arc-by-keys2 .ensures ps es (a .faces .now) ks, ← c .before .before .before .arc-by-keys3 .ensures ps es (a .faces .now) ks, ← four) (c .insert-need2 .ensures (a .vertices .now) ps es (a .faces .now) ks)
 
-returns-9 : tie.Need-returns-9
-unfolding need
-returns-9 c = λ few ps es ks. rw (c .before .enum-told4 .given .1) (c .needs7 .ensures)
+returns-4 : tie.Need-returns-4
+returns-4 c =
+    let a = c .before .before .before .args in
+    λ few ps es ks. c .most-of .ensures (a .vertices .now) ps es ks .0 ∙ none-asked (mesh (a .vertices .now) ps (a .arcs .now) es (a .faces .now) ks) (a .edit) (a .keys .now) (c .before .match .keys4)
 
 pub need-of-spec : {M : Type 1} → statement M
 need-of-spec =
     tie.close
     (tie.spec
     enum-told
-    needs-requires
-    enum-told-2
     by-keys-requires
     insert-need-requires
-    enum-told-3
-    needs-requires-2
     enum-known-edit
     arc-by-keys-requires
     one-if-none-requires
-    needs-requires-3
+    needs-requires
     enum-known-edit-2
-    find-key3-requires
-    arity-of-requires
-    left-of-requires
-    needs-requires-4
-    enum-known-edit-3
-    find-key3-requires-2
-    arity-of-requires-2
-    left-of-requires-2
-    needs-requires-5
-    enum-known-edit-4
-    find-key3-requires-3
-    arity-of-requires-3
-    mul-needs
-    add-needs
-    needs-requires-6
-    enum-known-edit-5
     arc-by-keys-requires-2
     arc-by-keys-requires-3
     corners-of-requires
     corner-list-requires
     insert-need-requires-2
-    enum-told-4
-    needs-requires-7
+    most-of-requires
     returns
     returns-2
     returns-3
-    returns-4
-    returns-5
-    returns-6
-    returns-7
-    returns-8
-    returns-9)
+    returns-4)

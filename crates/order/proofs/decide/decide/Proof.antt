@@ -1,9 +1,9 @@
+-- `order::decide::decide` meets its contract. The tests in their order. Assumes nothing.
 use Prim.Native.Nat.{ℕ, _≤_}
 use mathlib.Core.Path.{_≡_, refl, ap, sym, _∙_}
 use mathlib.Core.List.{List}
 use borrow.Author.Tests.{not-true, not-false}
 use Rattle.rules.specs.Mesh.{Mesh, mesh, Room, room}
-use Rattle.rules.specs.Call.{needs as needsOf}
 use Rattle.checks.proofs.Pairs.{given-few}
 use Rattle.order.proofs.Deciding.{not-given, checks-refuse, not-moves, not-room, all-passed}
 use borrow.Author.Needs.{needs}
@@ -40,27 +40,22 @@ returns-3 c =
     not-moves (mesh (x .vertices .now) (x .positions .now) (x .arcs .now) (x .edges .now) (x .faces .now) (x .counters .now)) (x .edit) (x .keys .now) (sym (c .before .before .before .before .before .before .given .ensures) ∙ not-false _ (c .before .before .before .before .before .if1 .left)) (c .before .before .before .before .checks-of .result) (c .before .before .before .before .checks-of .ensures (given-few (x .edit) (x .keys .now) (sym (c .before .before .before .before .before .before .given .ensures) ∙ not-false _ (c .before .before .before .before .before .if1 .left))) (x .positions .now) (x .edges .now) (x .counters .now)) (sym (c .before .before .before .accepted .ensures) ∙ not-false _ (c .before .before .if2 .left))
     (sym (c .before .moves-finite .ensures (x .edges .now) (x .counters .now)) ∙ not-true _ (c .if3 .taken))
 
-need-of-requires : tie.Need-need-of-requires
-need-of-requires c κs = search needs
-
-room-for-requires : tie.Need-room-for-requires
-room-for-requires c κs = search needs
+has-room-requires : tie.Need-has-room-requires
+has-room-requires c κs = search needs
 
 returns-4 : tie.Need-returns-4
 returns-4 c =
-    let x = c .before .before .before .before .before .before .before .before .before .before .before .args in
-    not-room (mesh (x .vertices .now) (x .positions .now) (x .arcs .now) (x .edges .now) (x .faces .now) (x .counters .now)) (x .edit) (x .keys .now) (sym (c .before .before .before .before .before .before .before .before .before .given .ensures) ∙ not-false _ (c .before .before .before .before .before .before .before .before .if1 .left)) (c .before .before .before .before .before .before .before .checks-of .result) (c .before .before .before .before .before .before .before .checks-of .ensures (given-few (x .edit) (x .keys .now) (sym (c .before .before .before .before .before .before .before .before .before .given .ensures) ∙ not-false _ (c .before .before .before .before .before .before .before .before .if1 .left))) (x .positions .now) (x .edges .now) (x .counters .now)) (sym (c .before .before .before .before .before .before .accepted .ensures) ∙ not-false _ (c .before .before .before .before .before .if2 .left))
-    (sym (c .before .before .before .before .moves-finite .ensures (x .edges .now) (x .counters .now)) ∙ not-false _ (c .before .before .before .if3 .left))
-    (needsOf (c .before .before .need-of .result .vertices) (c .before .before .need-of .result .edges) (c .before .before .need-of .result .faces) (c .before .before .need-of .result .facekeys)) (c .before .before .need-of .ensures (given-few (x .edit) (x .keys .now) (sym (c .before .before .before .before .before .before .before .before .before .given .ensures) ∙ not-false _ (c .before .before .before .before .before .before .before .before .if1 .left))) (x .positions .now) (x .edges .now) (x .counters .now))
-    (sym (c .before .room-for .ensures (x .positions .now) (x .arcs .now)) ∙ not-true _ (c .if4 .taken))
+    let x = c .before .before .before .before .before .before .before .before .before .before .args in
+    not-room (mesh (x .vertices .now) (x .positions .now) (x .arcs .now) (x .edges .now) (x .faces .now) (x .counters .now)) (x .edit) (x .keys .now) (sym (c .before .before .before .before .before .before .before .before .given .ensures) ∙ not-false _ (c .before .before .before .before .before .before .before .if1 .left)) (c .before .before .before .before .before .before .checks-of .result) (c .before .before .before .before .before .before .checks-of .ensures (given-few (x .edit) (x .keys .now) (sym (c .before .before .before .before .before .before .before .before .given .ensures) ∙ not-false _ (c .before .before .before .before .before .before .before .if1 .left))) (x .positions .now) (x .edges .now) (x .counters .now)) (sym (c .before .before .before .before .before .accepted .ensures) ∙ not-false _ (c .before .before .before .before .if2 .left))
+    (sym (c .before .before .before .moves-finite .ensures (x .edges .now) (x .counters .now)) ∙ not-false _ (c .before .before .if3 .left))
+    (sym (c .before .has-room .ensures (given-few (x .edit) (x .keys .now) (sym (c .before .before .before .before .before .before .before .before .given .ensures) ∙ not-false _ (c .before .before .before .before .before .before .before .if1 .left))) (x .positions .now)) ∙ not-true _ (c .if4 .taken))
 
 returns-5 : tie.Need-returns-5
 returns-5 c =
-    let x = c .before .before .before .before .before .before .before .before .before .before .before .args in
-    all-passed (mesh (x .vertices .now) (x .positions .now) (x .arcs .now) (x .edges .now) (x .faces .now) (x .counters .now)) (x .edit) (x .keys .now) (sym (c .before .before .before .before .before .before .before .before .before .given .ensures) ∙ not-false _ (c .before .before .before .before .before .before .before .before .if1 .left)) (c .before .before .before .before .before .before .before .checks-of .result) (c .before .before .before .before .before .before .before .checks-of .ensures (given-few (x .edit) (x .keys .now) (sym (c .before .before .before .before .before .before .before .before .before .given .ensures) ∙ not-false _ (c .before .before .before .before .before .before .before .before .if1 .left))) (x .positions .now) (x .edges .now) (x .counters .now)) (sym (c .before .before .before .before .before .before .accepted .ensures) ∙ not-false _ (c .before .before .before .before .before .if2 .left))
-    (sym (c .before .before .before .before .moves-finite .ensures (x .edges .now) (x .counters .now)) ∙ not-false _ (c .before .before .before .if3 .left))
-    (needsOf (c .before .before .need-of .result .vertices) (c .before .before .need-of .result .edges) (c .before .before .need-of .result .faces) (c .before .before .need-of .result .facekeys)) (c .before .before .need-of .ensures (given-few (x .edit) (x .keys .now) (sym (c .before .before .before .before .before .before .before .before .before .given .ensures) ∙ not-false _ (c .before .before .before .before .before .before .before .before .if1 .left))) (x .positions .now) (x .edges .now) (x .counters .now))
-    (sym (c .before .room-for .ensures (x .positions .now) (x .arcs .now)) ∙ not-false _ (c .if4 .left))
+    let x = c .before .before .before .before .before .before .before .before .before .before .args in
+    all-passed (mesh (x .vertices .now) (x .positions .now) (x .arcs .now) (x .edges .now) (x .faces .now) (x .counters .now)) (x .edit) (x .keys .now) (sym (c .before .before .before .before .before .before .before .before .given .ensures) ∙ not-false _ (c .before .before .before .before .before .before .before .if1 .left)) (c .before .before .before .before .before .before .checks-of .result) (c .before .before .before .before .before .before .checks-of .ensures (given-few (x .edit) (x .keys .now) (sym (c .before .before .before .before .before .before .before .before .given .ensures) ∙ not-false _ (c .before .before .before .before .before .before .before .if1 .left))) (x .positions .now) (x .edges .now) (x .counters .now)) (sym (c .before .before .before .before .before .accepted .ensures) ∙ not-false _ (c .before .before .before .before .if2 .left))
+    (sym (c .before .before .before .moves-finite .ensures (x .edges .now) (x .counters .now)) ∙ not-false _ (c .before .before .if3 .left))
+    (sym (c .before .has-room .ensures (given-few (x .edit) (x .keys .now) (sym (c .before .before .before .before .before .before .before .before .given .ensures) ∙ not-false _ (c .before .before .before .before .before .before .before .if1 .left))) (x .positions .now)) ∙ not-false _ (c .if4 .left))
 
 pub decide-spec : {M : Type 1} → statement M
 decide-spec =
@@ -73,7 +68,6 @@ decide-spec =
     returns-2
     moves-finite-requires
     returns-3
-    need-of-requires
-    room-for-requires
+    has-room-requires
     returns-4
     returns-5)
