@@ -1,5 +1,6 @@
 -- The arcs of a perimeter's pairs, and the steps by which one pass over the arc table finds them.
-use Prim.Native.Nat.{ℕ, _+_, _%_}
+use Prim.Native.Nat.{ℕ, _+_, _%_, _<_}
+use mathlib.Core.Path.{_≡_}
 use mathlib.Core.Bool.{Bool, true, false, _&&_, _||_, cond}
 use mathlib.Core.List.{List, [], _∷_, _++_}
 use lib.ListN.{length, getD, set, replicate}
@@ -50,3 +51,13 @@ meets per a b j = sameTwo (getD per j 0) (getD per (after (length per) j) 0) a b
 
 unfoldable pub metBefore : List ℕ → ℕ → ℕ → Bool
 metBefore per i k = someBelow (meets per (getD per k 0) (getD per (after (length per) k) 0)) i
+
+-- ---- a list of pairs: pair j runs from place j of the one list to place j of the other
+
+-- it runs from s to d
+unfoldable pub runsAt : List ℕ → List ℕ → ℕ → ℕ → ℕ → Bool
+runsAt from to s d j = eqb s (getD from j 0) && eqb d (getD to j 0)
+
+-- no arc leads along any of the first n
+abbrev pub NoneLed : Table → List ℕ → List ℕ → ℕ → Type 0
+NoneLed arcs from to n = (j : ℕ) → j < n → arcBetween arcs (getD from j 0) (getD to j 0) ≡ 0

@@ -2,6 +2,8 @@
 // It carries the lookups of document 01's rule 5: "perimeter pairs in order: an existing arc ..". Each of them alone is `rows::find_arc`.
 // And whether two pairs join the same vertices: an edge that is made for one pair is then another pair's too.
 
+pub mod joined; // joined.rt: that no arc leads along any of a list of pairs
+
 use rules::ArcRow;
 use rules::Links;
 use rules::RING;

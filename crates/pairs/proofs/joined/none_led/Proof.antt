@@ -1,0 +1,122 @@
+-- `pairs::joined::none_led` meets its contract. The loop keeps that no row passed by leads along a pair; laws of Led. Assumes nothing.
+use Prim.Native.Nat.{ℕ, _-_, _≤_}
+use native.Mathlib.Omega.{arith}
+use mathlib.Core.Path.{_≡_, ap, sym, _∙_}
+use mathlib.Core.Bool.{Bool, cond}
+use mathlib.Core.Logic.{⊎-elim}
+use lib.ListN.{length}
+use Rattle.pairs.proofs.Led.{Unled, unled-start, unled-skip, unled-next, unled-end}
+use borrow.Author.Needs.{needs}
+use Rattle.pairs.proofs.joined.none_led.Statement.{statement}
+use Rattle.pairs.proofs.joined.none_led.Tie as tie
+
+abbrev Inv-loop : tie.InvT-loop
+Inv-loop arcs from to n seen i₀ i = (i ≤ length arcs) × Unled arcs from to n i
+
+abbrev μ-loop : tie.MeasureT-loop
+μ-loop arcs from to n seen i₀ i = length arcs - i
+
+returns : tie.Need-returns Inv-loop μ-loop
+returns c = λ e j q. let z : ⊥ = omega arith in absurd z
+
+known-places-requires : tie.Need-known-places-requires Inv-loop μ-loop
+known-places-requires c κs = search needs
+
+marks-requires : tie.Need-marks-requires Inv-loop μ-loop
+marks-requires c κs = search needs
+
+loop-holds : tie.Need-loop-holds Inv-loop μ-loop
+loop-holds c =
+    let a = c .before .before .before .before .before .args in
+    (search needs, unled-start (a .arcs .now) (a .from .now) (a .to .now) (a .n))
+
+mul-wide : tie.Need-mul-wide Inv-loop μ-loop
+mul-wide c = search needs
+
+index-1-wide : tie.Need-index-1-wide Inv-loop μ-loop
+index-1-wide c = search needs
+
+index-2-wide : tie.Need-index-2-wide Inv-loop μ-loop
+index-2-wide c = search needs
+
+wide-requires : tie.Need-wide-requires Inv-loop μ-loop
+wide-requires c κs = search needs
+
+array-read-if2 : tie.Need-array-read-if2 Inv-loop μ-loop
+array-read-if2 c = search needs
+
+mul-is-listed : tie.Need-mul-is-listed Inv-loop μ-loop
+mul-is-listed c = search needs
+
+index-1-is-listed : tie.Need-index-1-is-listed Inv-loop μ-loop
+index-1-is-listed c = search needs
+
+index-2-is-listed : tie.Need-index-2-is-listed Inv-loop μ-loop
+index-2-is-listed c = search needs
+
+mul-is-listed-2 : tie.Need-mul-is-listed-2 Inv-loop μ-loop
+mul-is-listed-2 c = search needs
+
+index-1-is-listed-2 : tie.Need-index-1-is-listed-2 Inv-loop μ-loop
+index-1-is-listed-2 c = search needs
+
+index-2-is-listed-2 : tie.Need-index-2-is-listed-2 Inv-loop μ-loop
+index-2-is-listed-2 c = search needs
+
+is-listed-requires : tie.Need-is-listed-requires Inv-loop μ-loop
+is-listed-requires c κs = search needs
+
+returns-2 : tie.Need-returns-2 Inv-loop μ-loop
+returns-2 c = λ e. let z : _≡_ {A = ℕ} 0 1 = ap (λ (b : Bool). cond b 1 0) e in absurd (omega arith)
+
+add-i : tie.Need-add-i Inv-loop μ-loop
+add-i c = search needs
+
+loop-less : tie.Need-loop-less Inv-loop μ-loop
+loop-less c = search needs
+
+loop-again : tie.Need-loop-again Inv-loop μ-loop
+loop-again c =
+    let l = c .before .before .before .before in
+    let a = l .before .before .before .before .before .before .args in
+    let arcs = a .arcs .now in
+    let from = a .from .now in
+    let to = a .to .now in (
+      search needs,
+      ⊎-elim (λ w. unled-next arcs from to (a .n) (l .loop .i) (sym (w .3 .ensures) ∙ w .4 .left) (l .loop .inv .1))
+          (λ w. unled-skip arcs from to (a .n) (l .loop .i) (l .before .marks .result) (c .before .wide .result) (omega (arith, l .before .before .before .known-places .ensures)) (l .before .marks .ensures) (c .before .wide .ensures) (w .left) (l .loop .inv .1)) (c .if2 .came),
+    )
+
+returns-3 : tie.Need-returns-3 Inv-loop μ-loop
+returns-3 c =
+    let l = c .before in
+    let a = l .before .before .before .before .before .before .args in
+    λ e. unled-end (a .arcs .now) (a .from .now) (a .to .now) (a .n) (l .loop .i) (c .loop-test .left) (l .loop .inv .1)
+
+pub none-led-spec : {M : Type 1} → statement M
+none-led-spec =
+    tie.close
+    (tie.spec
+    Inv-loop
+    μ-loop
+    returns
+    known-places-requires
+    marks-requires
+    loop-holds
+    mul-wide
+    index-1-wide
+    index-2-wide
+    wide-requires
+    array-read-if2
+    mul-is-listed
+    index-1-is-listed
+    index-2-is-listed
+    mul-is-listed-2
+    index-1-is-listed-2
+    index-2-is-listed-2
+    is-listed-requires
+    returns-2
+    add-i
+    loop-less
+    loop-again
+    returns-3)
