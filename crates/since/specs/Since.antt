@@ -157,12 +157,12 @@ unjoined m n e = not (inner m n e) || eqb (findArc m (source n (edgeArc n e)) (d
 unfoldable pub pairOf : Mesh → ℕ → ℕ
 pairOf n e = pairName (source n (edgeArc n e)) (dest n (edgeArc n e))
 
--- how many new edges are looked at one by one, and for how many of them all arcs are searched
+-- how many new edges are looked at one by one, and how many of them are looked for among all arcs
 abbrev pub newLimit : ℕ
 newLimit = 128
 
 abbrev pub innerLimit : ℕ
-innerLimit = 4
+innerLimit = 64
 
 unfoldable pub newApart : Mesh → Mesh → List ℕ → Bool
 newApart m n links =

@@ -6,7 +6,7 @@ pub mod vertices; // vertices.rt: the vertices
 pub mod edges; // edges.rt: the edges, and a list of the new ones
 pub mod arcs; // arcs.rt: the arcs, and how many hold a face
 pub mod faces; // faces.rt: the faces, and the rings that have come and gone
-pub mod pairs; // pairs.rt: the pairs that new edges join
+pub mod apart; // apart.rt: the pairs that new edges join
 
 use rules::ArcRow;
 use rules::EdgeRow;
@@ -113,7 +113,7 @@ pub fn still_sound(
     if !passes::positions_sound(vertices, positions) {
         return false;
     }
-    if !pairs::edges_apart(v, a, e, arcs, edges, k[1], counters[1]) {
+    if !apart::edges_apart(v, a, e, arcs, edges, k[1], counters[1]) {
         return false;
     }
     faces::rings_still(a, f, vertices, arcs, edges, faces, k[2], counters[2])

@@ -6,8 +6,8 @@ use lib.ListN.{getD}
 use borrow.Author.Tests.{eq-eqb, ne-eqb}
 use Rattle.names.proofs.Loops.{Passed, none-yet, one-more, all-passed, one-failed}
 use borrow.Author.Needs.{needs}
-use Rattle.since.proofs.pairs.new_name.Statement.{statement}
-use Rattle.since.proofs.pairs.new_name.Tie as tie
+use Rattle.since.proofs.apart.new_name.Statement.{statement}
+use Rattle.since.proofs.apart.new_name.Tie as tie
 
 abbrev Inv-loop : tie.InvT-loop
 Inv-loop names n name j₀ j = (j ≤ n) × Passed (λ k. not (eqb (getD names k 0) name)) j

@@ -1,48 +1,37 @@
-// The pairs: no new edge joins a pair that another edge joins. Only a few new edges between two vertices that were there are searched for
-// among the arcs as they were; where there are more, or more new edges than are listed, the test fails and all tables are tested.
+// The pairs: no new edge joins a pair that another edge joins. The new edges between two vertices that were there are looked for among the
+// arcs as they were, all in one pass; where there are more than 64, or more new edges than are listed, the test fails and all tables are tested.
 
 use crate::edges as table;
 use crate::edges::NEW;
+use pairs::joined;
 use rules::ArcRow;
 use rules::EdgeRow;
+use rules::RING;
 use rules::VertexRow;
 use tables::rows as cells;
 ghost use mathlib.Core.Path.{_≡_};
-ghost use mathlib.Core.Bool.{true, not, cond, _&&_, _||_};
+ghost use mathlib.Core.Bool.{true, not, _&&_};
 ghost use mathlib.Core.List.{[], _∷_};
 ghost use Prim.Native.Nat.{_≤_};
 ghost use lib.ListN.{length, getD, take};
 ghost use lib.Dec.{eqb};
 ghost use Rattle.rules.specs.Table.{there, allBelow};
-ghost use Rattle.rules.specs.Mesh.{mesh, arcBetween};
+ghost use Rattle.rules.specs.Mesh.{mesh};
 ghost use Rattle.since.specs.Since.{newApart, edgesStill, pairsStill};
 
-// How many new edges between old vertices are searched for.
-const INNER: usize = 4;
+// How many new edges between old vertices are looked for: as many as a list has places.
+const INNER: usize = 64;
 
 // ---- one new edge
 
-// 1 if both ends were there, else 0.
-fn inner(vertices: &[VertexRow], a: u32, b: u32) -> usize
-    ensures { λ r. ⌜ (r ≡ cond (there (now (vertices .entry)) a && there (now (vertices .entry)) b) 1 0) × (r ≤ 1) ⌝ }
+// Both ends were there.
+fn inner(vertices: &[VertexRow], a: u32, b: u32) -> bool
+    ensures { λ r. ⌜ r ≡ (there (now (vertices .entry)) a && there (now (vertices .entry)) b) ⌝ }
 {
     if cells::cell2(vertices, a, 0) == 0 {
-        return 0;
+        return false;
     }
-    if cells::cell2(vertices, b, 0) == 0 {
-        return 0;
-    }
-    1
-}
-
-// No arc led from the one to the other, where both were there.
-fn unjoined(before: &[ArcRow], both: usize, a: u32, b: u32) -> bool
-    ensures { λ r. ⌜ r ≡ (eqb both 0 || eqb (arcBetween (now (before .entry)) a b) 0) ⌝ }
-{
-    if both == 0 {
-        return true;
-    }
-    cells::find_arc(before, a, b) == 0
+    cells::cell2(vertices, b, 0) != 0
 }
 
 // The name is none of the n before.
@@ -80,6 +69,8 @@ pub fn pairs_apart(
 {
     known_places(*links);
     let mut names = [0u32; NEW];
+    let mut from = [0u32; RING];
+    let mut to = [0u32; RING];
     let mut near: usize = 0;
     let mut i: usize = 0;
     while i < n {
@@ -91,17 +82,17 @@ pub fn pairs_apart(
             return false;
         }
         names[i] = name;
-        let both = inner(vertices, a, b);
-        near += both;
-        if near > INNER {
-            return false;
-        }
-        if !unjoined(before, both, a, b) {
-            return false;
+        if inner(vertices, a, b) {
+            if near == INNER {
+                return false;
+            }
+            from[near] = a;
+            to[near] = b;
+            near += 1;
         }
         i += 1;
     }
-    true
+    joined::none_led(before, &from, &to, near)
 }
 
 // The edges and the pairs that they join.

@@ -4,8 +4,8 @@ use Rattle.since.specs.Since.{edgesStill}
 use Rattle.since.proofs.StillLoops.{never}
 use Rattle.since.proofs.StillMeshes.{pairs-read}
 use borrow.Author.Needs.{needs}
-use Rattle.since.proofs.pairs.edges_apart.Statement.{statement}
-use Rattle.since.proofs.pairs.edges_apart.Tie as tie
+use Rattle.since.proofs.apart.edges_apart.Statement.{statement}
+use Rattle.since.proofs.apart.edges_apart.Tie as tie
 
 edges-still-requires : tie.Need-edges-still-requires
 edges-still-requires c κs = search needs
