@@ -3,6 +3,7 @@
 // untouched."
 
 use order::decide;
+use order::rooms;
 use order::settle;
 use rules::Answer;
 use rules::ArcRow;
@@ -251,7 +252,6 @@ pub fn change(
         edit,
         keys,
     );
-    sets::zero_set(v1, p1, a1, e1, f1);
-    sets::zero_set(v2, p2, a2, e2, f2);
+    rooms::clear(v1, p1, a1, e1, f1, v2, p2, a2, e2, f2);
     answer
 }
