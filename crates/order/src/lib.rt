@@ -2,6 +2,7 @@
 // moved coordinates, 7), and what is settled after the work (a refusal in mid-edit, 8, or the result copied over the mesh).
 // Document 01's "Order". And what becomes of the rooms when the call ends.
 
+pub mod back;
 pub mod decide;
 pub mod rooms;
 pub mod settle;

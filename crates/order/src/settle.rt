@@ -2,6 +2,7 @@
 // mesh and the counters are set. Document 01: "work in lent room, copied over only when accepted", "Every refusal .. changes no mesh table and
 // no counter."
 
+use crate::back;
 use rules::Answer;
 use rules::ArcRow;
 use rules::EdgeRow;
@@ -10,14 +11,16 @@ use rules::FaceRow;
 use rules::PositionRow;
 use rules::Refusal;
 use rules::VertexRow;
+use since::changes::CHANGED;
+use since::changes::TOO_MANY;
 use tables::answers;
-use tables::sets;
 ghost use mathlib.Core.Path.{_≡_};
 ghost use Rattle.rules.specs.Mesh.{mesh};
 ghost use Rattle.rules.specs.Step.{step};
 ghost use mathlib.Core.Bool.{true};
 ghost use Rattle.rules.specs.Sound.{sound};
 ghost use Rattle.rules.specs.Call.{worked};
+ghost use Rattle.since.specs.Changes.{Listed};
 ghost use Rattle.order.specs.Transaction.{left, over, SameSize, keepsSound};
 
 // Whether an edit is one that refuses nothing in mid-edit and always leaves a sound mesh, so that it needs no room and nothing is to be settled.
@@ -37,8 +40,15 @@ pub fn keeps_sound(edit: Edit) -> bool
     }
 }
 
-// What the work comes to: what it told, or 8 where the tables that it leaves are not sound. Those from v to k are as they were, and sound.
+// What the work comes to, and how many arc rows are listed, all that have changed; or that the list says nothing.
+struct Verdict {
+    answer: Answer,
+    listed: usize,
+}
+
+// What the work told, or 8 where the tables that it leaves are not sound. Those from v to k are as they were, and sound.
 fn judged(
+    changed: &mut [u32; CHANGED],
     v: &[VertexRow],
     p: &[PositionRow],
     a: &[ArcRow],
@@ -52,14 +62,18 @@ fn judged(
     faces: &[FaceRow],
     counters: &[u32; 3],
     told: Answer,
-) -> Answer
+) -> Verdict
     requires { ⌜ sound (mesh (now v) (now p) (now a) (now e) (now f) (now k)) ≡ true ⌝ }
-    ensures { λ r. ⌜ r ≡ worked (step (mesh (now (vertices .entry)) (now (positions .entry)) (now (arcs .entry)) (now (edges .entry)) (now (faces .entry)) (now (counters .entry))) told) .answer ⌝ }
+    ensures { λ r. ⌜ (r .answer ≡ worked (step (mesh (now (vertices .entry)) (now (positions .entry)) (now (arcs .entry)) (now (edges .entry)) (now (faces .entry)) (now (counters .entry))) told) .answer) × Listed (now (changed .exit)) (r .listed) (now (a .entry)) (now (arcs .entry)) ⌝ }
 {
     if !answers::accepted(told) {
-        return told;
+        return Verdict {
+            answer: told,
+            listed: TOO_MANY,
+        };
     }
-    if since::sound_since(
+    let now = since::sound_since(
+        changed,
         v,
         p,
         a,
@@ -72,10 +86,17 @@ fn judged(
         edges,
         faces,
         counters,
-    ) {
-        return told;
+    );
+    if now.sound {
+        return Verdict {
+            answer: told,
+            listed: now.listed,
+        };
     }
-    Answer::Refused(Refusal::WouldBreak)
+    Verdict {
+        answer: Answer::Refused(Refusal::WouldBreak),
+        listed: TOO_MANY,
+    }
 }
 
 // The mesh, and in room what the work has made of it.
@@ -98,7 +119,9 @@ pub fn settle(
     requires { ⌜ SameSize (mesh (now vertices) (now positions) (now arcs) (now edges) (now faces) (now counters)) (mesh (now v) (now p) (now a) (now e) (now f) k) ⌝ }
     ensures { λ r. ⌜ left r (mesh (now (vertices .exit)) (now (positions .exit)) (now (arcs .exit)) (now (edges .exit)) (now (faces .exit)) (now (counters .exit))) ≡ over (mesh (now (vertices .entry)) (now (positions .entry)) (now (arcs .entry)) (now (edges .entry)) (now (faces .entry)) (now (counters .entry))) (worked (step (mesh (now (v .entry)) (now (p .entry)) (now (a .entry)) (now (e .entry)) (now (f .entry)) k) told)) ⌝ }
 {
-    let answer = judged(
+    let mut changed = [0u32; CHANGED];
+    let verdict = judged(
+        &mut changed,
         vertices,
         positions,
         arcs,
@@ -113,10 +136,24 @@ pub fn settle(
         &k,
         told,
     );
+    let answer = verdict.answer;
     if !answers::accepted(answer) {
         return answer;
     }
-    sets::copy_set(vertices, positions, arcs, edges, faces, v, p, a, e, f);
+    back::copy_back(
+        vertices,
+        positions,
+        arcs,
+        edges,
+        faces,
+        v,
+        p,
+        a,
+        e,
+        f,
+        &changed,
+        verdict.listed,
+    );
     *counters = k;
     answer
 }

@@ -12,3 +12,5 @@ pub mod StillLoops
 pub mod StillFaces
 pub mod StillPairing
 pub mod StillMeshes
+pub mod Listing
+pub mod StillArcs

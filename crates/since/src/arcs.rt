@@ -1,6 +1,9 @@
 // The arcs: a used row keeps its ends and its edge, and leaves or takes only faces of which the row has another key now; an unused one is
 // made whole or stays. The arcs that hold a face are counted where something has changed.
 
+use crate::changes;
+use crate::changes::CHANGED;
+use crate::changes::TOO_MANY;
 use crate::rows;
 use rules::ArcRow;
 use rules::EdgeRow;
@@ -20,12 +23,15 @@ ghost use Rattle.rules.specs.Sound.{unlessNone};
 ghost use Rattle.proved.specs.Demand.{holdsSome};
 ghost use Rattle.since.specs.Whole.{joinsRow, arcEnds};
 ghost use Rattle.since.specs.Since.{changedFace, arcKept, arcMade, arcsStill, heldNow, heldBefore};
+ghost use Rattle.since.specs.Changes.{Listed};
 
-// Whether every row passes; and in rows that are not as they were, how many hold a face now, and how many held one.
+// Whether every row passes; and in rows that are not as they were, how many hold a face now, and how many held one. So many of those rows are
+// listed, or there are too many.
 pub struct Held {
     pub passed: bool,
     pub now: usize,
     pub before: usize,
+    pub listed: usize,
 }
 
 // ---- one row that is not as it was
@@ -175,6 +181,7 @@ fn holds(row: ArcRow) -> usize
 // ---- every row
 
 pub fn arcs_still(
+    changed: &mut [u32; CHANGED],
     faces_before: &[FaceRow],
     before: &[ArcRow],
     vertices: &[VertexRow],
@@ -182,11 +189,12 @@ pub fn arcs_still(
     edges: &[EdgeRow],
     faces: &[FaceRow],
 ) -> Held
-    requires { ⌜ length (now before) ≡ length (now arcs) ⌝ }
-    ensures { λ r. ⌜ (r .passed ≡ true → (arcsStill (mesh [] [] (now (before .entry)) [] (now («faces_before» .entry)) []) (mesh (now (vertices .entry)) [] (now (arcs .entry)) (now (edges .entry)) (now (faces .entry)) []) ≡ true) × ((r .now ≡ heldNow (mesh [] [] (now (before .entry)) [] (now («faces_before» .entry)) []) (mesh (now (vertices .entry)) [] (now (arcs .entry)) (now (edges .entry)) (now (faces .entry)) [])) × (r .before ≡ heldBefore (mesh [] [] (now (before .entry)) [] (now («faces_before» .entry)) []) (mesh (now (vertices .entry)) [] (now (arcs .entry)) (now (edges .entry)) (now (faces .entry)) []))) × ((r .now ≤ length (now (arcs .entry))) × (r .before ≤ length (now (arcs .entry))))) ⌝ }
+    requires { ⌜ (length (now before) ≡ length (now arcs)) × (length (now arcs) ≤ 16384) ⌝ }
+    ensures { λ r. ⌜ (r .passed ≡ true → (arcsStill (mesh [] [] (now (before .entry)) [] (now («faces_before» .entry)) []) (mesh (now (vertices .entry)) [] (now (arcs .entry)) (now (edges .entry)) (now (faces .entry)) []) ≡ true) × ((r .now ≡ heldNow (mesh [] [] (now (before .entry)) [] (now («faces_before» .entry)) []) (mesh (now (vertices .entry)) [] (now (arcs .entry)) (now (edges .entry)) (now (faces .entry)) [])) × (r .before ≡ heldBefore (mesh [] [] (now (before .entry)) [] (now («faces_before» .entry)) []) (mesh (now (vertices .entry)) [] (now (arcs .entry)) (now (edges .entry)) (now (faces .entry)) []))) × ((r .now ≤ length (now (arcs .entry))) × (r .before ≤ length (now (arcs .entry)))) × ((r .listed ≤ 513) × Listed (now (changed .exit)) (r .listed) (now (before .entry)) (now (arcs .entry)))) ⌝ }
 {
     let mut held: usize = 0;
     let mut was_held: usize = 0;
+    let mut listed: usize = 0;
     let mut i = 0;
     while i < arcs.len() {
         if !rows::same6(before[i], arcs[i]) {
@@ -204,10 +212,12 @@ pub fn arcs_still(
                     passed: false,
                     now: 0,
                     before: 0,
+                    listed: TOO_MANY,
                 };
             }
             held += holds(arcs[i]);
             was_held += holds(before[i]);
+            listed = changes::list_row(changed, listed, i);
         }
         i += 1;
     }
@@ -215,5 +225,6 @@ pub fn arcs_still(
         passed: true,
         now: held,
         before: was_held,
+        listed,
     }
 }

@@ -2,6 +2,7 @@
 // on the rings of faces of which the row has another key are counted, and with the arcs that hold a face they add up.
 
 use crate::arcs as table;
+use crate::changes::CHANGED;
 use crate::rows;
 use rules::ArcRow;
 use rules::EdgeRow;
@@ -15,7 +16,7 @@ use walks::rings;
 ghost use mathlib.Core.Path.{_≡_};
 ghost use mathlib.Core.Bool.{true, not, cond, _&&_};
 ghost use mathlib.Core.List.{[], _∷_};
-ghost use Prim.Native.Nat.{ℕ, _≤_};
+ghost use Prim.Native.Nat.{ℕ, _-_, _≤_};
 ghost use lib.ListN.{length, getD};
 ghost use lib.Dec.{eqb};
 ghost use Rattle.rules.specs.Table.{used};
@@ -24,6 +25,7 @@ ghost use Rattle.rules.specs.Link as Link;
 ghost use Rattle.rules.specs.Sound.{zeroRow};
 ghost use Rattle.sound.specs.Rings.{ringLength};
 ghost use Rattle.since.specs.Since.{newFirst, faceLeft, facesStill, gained, lost, arcsStill, addsUp};
+ghost use Rattle.since.specs.Changes.{Listed};
 
 // Whether every row passes; and on the rings of faces of which the row has another key, how many arcs there are now, and there were.
 pub struct Rings {
@@ -154,7 +156,9 @@ pub fn faces_still(
 
 // ---- arcs and faces together
 
+// One more than the number of arc rows listed, where all of it passes; else 0.
 pub fn rings_still(
+    changed: &mut [u32; CHANGED],
     before: &[ArcRow],
     were: &[FaceRow],
     vertices: &[VertexRow],
@@ -163,17 +167,20 @@ pub fn rings_still(
     faces: &[FaceRow],
     from: u32,
     to: u32,
-) -> bool
+) -> usize
     requires { ⌜ (length (now before) ≡ length (now arcs)) × (length (now arcs) ≤ 16384) × (length (now were) ≡ length (now faces)) × (length (now faces) ≤ 4096) ⌝ }
-    ensures { λ r. ⌜ (r ≡ true → (arcsStill (mesh [] [] (now (before .entry)) [] (now (were .entry)) (0 ∷ 0 ∷ from ∷ [])) (mesh (now (vertices .entry)) [] (now (arcs .entry)) (now (edges .entry)) (now (faces .entry)) (0 ∷ 0 ∷ to ∷ [])) ≡ true) × (facesStill (mesh [] [] (now (before .entry)) [] (now (were .entry)) (0 ∷ 0 ∷ from ∷ [])) (mesh (now (vertices .entry)) [] (now (arcs .entry)) (now (edges .entry)) (now (faces .entry)) (0 ∷ 0 ∷ to ∷ [])) ≡ true) × (addsUp (mesh [] [] (now (before .entry)) [] (now (were .entry)) (0 ∷ 0 ∷ from ∷ [])) (mesh (now (vertices .entry)) [] (now (arcs .entry)) (now (edges .entry)) (now (faces .entry)) (0 ∷ 0 ∷ to ∷ [])) ≡ true)) ⌝ }
+    ensures { λ r. ⌜ ((r ≡ 0 → ⊥) → (arcsStill (mesh [] [] (now (before .entry)) [] (now (were .entry)) (0 ∷ 0 ∷ from ∷ [])) (mesh (now (vertices .entry)) [] (now (arcs .entry)) (now (edges .entry)) (now (faces .entry)) (0 ∷ 0 ∷ to ∷ [])) ≡ true) × (facesStill (mesh [] [] (now (before .entry)) [] (now (were .entry)) (0 ∷ 0 ∷ from ∷ [])) (mesh (now (vertices .entry)) [] (now (arcs .entry)) (now (edges .entry)) (now (faces .entry)) (0 ∷ 0 ∷ to ∷ [])) ≡ true) × (addsUp (mesh [] [] (now (before .entry)) [] (now (were .entry)) (0 ∷ 0 ∷ from ∷ [])) (mesh (now (vertices .entry)) [] (now (arcs .entry)) (now (edges .entry)) (now (faces .entry)) (0 ∷ 0 ∷ to ∷ [])) ≡ true) × (r ≤ 514) × Listed (now (changed .exit)) (r - 1) (now (before .entry)) (now (arcs .entry))) ⌝ }
 {
-    let held = table::arcs_still(were, before, vertices, arcs, edges, faces);
+    let held = table::arcs_still(changed, were, before, vertices, arcs, edges, faces);
     if !held.passed {
-        return false;
+        return 0;
     }
     let rings = faces_still(before, were, arcs, faces, from, to);
     if !rings.passed {
-        return false;
+        return 0;
     }
-    held.now + rings.lost == held.before + rings.gained
+    if held.now + rings.lost != held.before + rings.gained {
+        return 0;
+    }
+    held.listed + 1
 }

@@ -7,7 +7,10 @@ pub mod edges; // edges.rt: the edges, and a list of the new ones
 pub mod arcs; // arcs.rt: the arcs, and how many hold a face
 pub mod faces; // faces.rt: the faces, and the rings that have come and gone
 pub mod apart; // apart.rt: the pairs that new edges join
+pub mod changes; // changes.rt: the list of arc rows that have changed
 
+use changes::CHANGED;
+use changes::TOO_MANY;
 use rules::ArcRow;
 use rules::EdgeRow;
 use rules::FaceRow;
@@ -18,11 +21,12 @@ use sound::queries;
 ghost use mathlib.Core.Path.{_≡_};
 ghost use mathlib.Core.Bool.{true};
 ghost use mathlib.Core.List.{[]};
-ghost use Prim.Native.Nat.{_≤_};
+ghost use Prim.Native.Nat.{_-_, _≤_};
 ghost use lib.ListN.{length};
 ghost use Rattle.rules.specs.Mesh.{mesh};
 ghost use Rattle.rules.specs.Sound.{sound};
 ghost use Rattle.since.specs.Since.{sizesStill, countersStill, stillSound};
+ghost use Rattle.since.specs.Changes.{Listed};
 
 const EDGE_LIMIT: usize = 8192;
 
@@ -84,8 +88,9 @@ fn counters_up(k: &[u32; 3], counters: &[u32; 3]) -> bool
     k[2] <= counters[2]
 }
 
-// Whether what has changed passes the test: then tables that were sound still are.
+// One more than the number of arc rows listed, where what has changed passes the test: then tables that were sound still are. Else 0.
 pub fn still_sound(
+    changed: &mut [u32; CHANGED],
     v: &[VertexRow],
     p: &[PositionRow],
     a: &[ArcRow],
@@ -98,29 +103,46 @@ pub fn still_sound(
     edges: &[EdgeRow],
     faces: &[FaceRow],
     counters: &[u32; 3],
-) -> bool
-    ensures { λ r. ⌜ (r ≡ true → stillSound (mesh (now (v .entry)) (now (p .entry)) (now (a .entry)) (now (e .entry)) (now (f .entry)) (now (k .entry))) (mesh (now (vertices .entry)) (now (positions .entry)) (now (arcs .entry)) (now (edges .entry)) (now (faces .entry)) (now (counters .entry))) ≡ true) ⌝ }
+) -> usize
+    ensures { λ r. ⌜ ((r ≡ 0 → ⊥) → (stillSound (mesh (now (v .entry)) (now (p .entry)) (now (a .entry)) (now (e .entry)) (now (f .entry)) (now (k .entry))) (mesh (now (vertices .entry)) (now (positions .entry)) (now (arcs .entry)) (now (edges .entry)) (now (faces .entry)) (now (counters .entry))) ≡ true) × (r ≤ 514) × Listed (now (changed .exit)) (r - 1) (now (a .entry)) (now (arcs .entry))) ⌝ }
 {
     if !same_sizes(v, p, a, e, f, vertices, positions, arcs, edges, faces) {
-        return false;
+        return 0;
     }
     if !counters_up(k, counters) {
-        return false;
+        return 0;
     }
     if !vertices::vertices_still(v, vertices, arcs, k[0], counters[0]) {
-        return false;
+        return 0;
     }
     if !passes::positions_sound(vertices, positions) {
-        return false;
+        return 0;
     }
     if !apart::edges_apart(v, a, e, arcs, edges, k[1], counters[1]) {
-        return false;
+        return 0;
     }
-    faces::rings_still(a, f, vertices, arcs, edges, faces, k[2], counters[2])
+    faces::rings_still(
+        changed,
+        a,
+        f,
+        vertices,
+        arcs,
+        edges,
+        faces,
+        k[2],
+        counters[2],
+    )
 }
 
-// Whether tables that were sound still are: by what has changed where that tells it, else by all the tables.
+// Whether tables that were sound still are, and how many arc rows are listed, all that have changed; or that the list says nothing.
+pub struct Told {
+    pub sound: bool,
+    pub listed: usize,
+}
+
+// By what has changed where that tells it, else by all the tables.
 pub fn sound_since(
+    changed: &mut [u32; CHANGED],
     v: &[VertexRow],
     p: &[PositionRow],
     a: &[ArcRow],
@@ -133,11 +155,12 @@ pub fn sound_since(
     edges: &[EdgeRow],
     faces: &[FaceRow],
     counters: &[u32; 3],
-) -> bool
+) -> Told
     requires { ⌜ sound (mesh (now v) (now p) (now a) (now e) (now f) (now k)) ≡ true ⌝ }
-    ensures { λ r. ⌜ r ≡ sound (mesh (now (vertices .entry)) (now (positions .entry)) (now (arcs .entry)) (now (edges .entry)) (now (faces .entry)) (now (counters .entry))) ⌝ }
+    ensures { λ r. ⌜ (r .sound ≡ sound (mesh (now (vertices .entry)) (now (positions .entry)) (now (arcs .entry)) (now (edges .entry)) (now (faces .entry)) (now (counters .entry)))) × Listed (now (changed .exit)) (r .listed) (now (a .entry)) (now (arcs .entry)) ⌝ }
 {
-    if still_sound(
+    let n = still_sound(
+        changed,
         v,
         p,
         a,
@@ -150,8 +173,15 @@ pub fn sound_since(
         edges,
         faces,
         counters,
-    ) {
-        return true;
+    );
+    if n != 0 {
+        return Told {
+            sound: true,
+            listed: n - 1,
+        };
     }
-    queries::is_sound(vertices, positions, arcs, edges, faces, counters)
+    Told {
+        sound: queries::is_sound(vertices, positions, arcs, edges, faces, counters),
+        listed: TOO_MANY,
+    }
 }

@@ -1,9 +1,8 @@
-use mathlib.Core.Path.{sym, _∙_}
+use mathlib.Core.Path.{refl, sym, _∙_}
 use borrow.Author.Tests.{not-false}
 use Rattle.proved.proofs.Rows.{true-T}
 use Rattle.since.proofs.StillRows.{sizes-parts}
 use Rattle.since.proofs.StillMeshes.{all-told}
-use Rattle.since.proofs.StillLoops.{never}
 use borrow.Author.Needs.{needs}
 use Rattle.since.proofs.still_sound.Statement.{statement}
 use Rattle.since.proofs.still_sound.Tie as tie
@@ -12,13 +11,13 @@ same-sizes-requires : tie.Need-same-sizes-requires
 same-sizes-requires c κs = search needs
 
 returns : tie.Need-returns
-returns c = λ h. never h
+returns c = λ h. absurd (h refl)
 
 counters-up-requires : tie.Need-counters-up-requires
 counters-up-requires c κs = search needs
 
 returns-2 : tie.Need-returns-2
-returns-2 c = λ h. never h
+returns-2 c = λ h. absurd (h refl)
 
 element-copy-out-vertices-still : tie.Need-element-copy-out-vertices-still
 element-copy-out-vertices-still c = search needs
@@ -30,13 +29,13 @@ vertices-still-requires : tie.Need-vertices-still-requires
 vertices-still-requires c κs = sym (sizes-parts _ _ (true-T (c .before .before .before .before .before .same-sizes .ensures (not-false _ (c .before .before .before .before .if1 .left)) .0)) .vertex-rows)
 
 returns-3 : tie.Need-returns-3
-returns-3 c = λ h. never h
+returns-3 c = λ h. absurd (h refl)
 
 positions-sound-requires : tie.Need-positions-sound-requires
 positions-sound-requires c κs = search needs
 
 returns-4 : tie.Need-returns-4
-returns-4 c = λ h. never h
+returns-4 c = λ h. absurd (h refl)
 
 element-copy-out-edges-apart : tie.Need-element-copy-out-edges-apart
 element-copy-out-edges-apart c = search needs
@@ -50,7 +49,7 @@ edges-apart-requires c κs =
     (sym (sizes-parts _ _ (true-T (h .0)) .edge-rows), h .1)
 
 returns-5 : tie.Need-returns-5
-returns-5 c = λ h. never h
+returns-5 c = λ h. absurd (h refl)
 
 element-copy-out-rings-still : tie.Need-element-copy-out-rings-still
 element-copy-out-rings-still c = search needs
@@ -60,14 +59,16 @@ element-copy-out-rings-still-2 c = search needs
 
 rings-still-requires : tie.Need-rings-still-requires
 rings-still-requires c κs =
-    let h = c .before .before .before .before .before .before .before .before .before .before .before .before .before .before .before .same-sizes .ensures (not-false _ (c .before .before .before .before .before .before .before .before .before .before .before .before .before .before .if1 .left)) in
+    let h = c .before .before .before .before .before .before .before .before .before .before .before .before .before .before .before .before .same-sizes .ensures (not-false _ (c .before .before .before .before .before .before .before .before .before .before .before .before .before .before .before .if1 .left)) in
     let s = sizes-parts _ _ (true-T (h .0)) in
     (sym (s .arc-rows), h .2, sym (s .face-rows), h .3)
 
 returns-6 : tie.Need-returns-6
 returns-6 c =
-    let a = c .before .before .before .before .before .before .before .before .before .before .before .before .before .before .before .before .before .args in
-    λ h. all-told (a .v .now) (a .p .now) (a .a .now) (a .e .now) (a .f .now) (a .k .now) (a .vertices .now) (a .positions .now) (a .arcs .now) (a .edges .now) (a .faces .now) (a .counters .now) (c .before .before .before .before .before .before .before .before .before .before .before .before .before .before .before .before .same-sizes .ensures (not-false _ (c .before .before .before .before .before .before .before .before .before .before .before .before .before .before .before .if1 .left)) .0) (c .before .before .before .before .before .before .before .before .before .before .before .before .before .before .counters-up .ensures (not-false _ (c .before .before .before .before .before .before .before .before .before .before .before .before .before .if2 .left))) (c .before .before .before .before .before .before .before .before .before .before .vertices-still .ensures (not-false _ (c .before .before .before .before .before .before .before .before .before .if3 .left))) (sym (c .before .before .before .before .before .before .before .before .positions-sound .ensures (a .arcs .now) (a .edges .now) (a .faces .now) (a .counters .now)) ∙ not-false _ (c .before .before .before .before .before .before .before .if4 .left)) (c .before .before .before .before .edges-apart .ensures (not-false _ (c .before .before .before .if5 .left))) (c .rings-still .ensures h)
+    let a = c .before .before .before .before .before .before .before .before .before .before .before .before .before .before .before .before .before .before .args in
+    λ h.
+    let r = c .rings-still .ensures h in
+    (all-told (a .v .now) (a .p .now) (a .a .now) (a .e .now) (a .f .now) (a .k .now) (a .vertices .now) (a .positions .now) (a .arcs .now) (a .edges .now) (a .faces .now) (a .counters .now) (c .before .before .before .before .before .before .before .before .before .before .before .before .before .before .before .before .before .same-sizes .ensures (not-false _ (c .before .before .before .before .before .before .before .before .before .before .before .before .before .before .before .before .if1 .left)) .0) (c .before .before .before .before .before .before .before .before .before .before .before .before .before .before .before .counters-up .ensures (not-false _ (c .before .before .before .before .before .before .before .before .before .before .before .before .before .before .if2 .left))) (c .before .before .before .before .before .before .before .before .before .before .before .vertices-still .ensures (not-false _ (c .before .before .before .before .before .before .before .before .before .before .if3 .left))) (sym (c .before .before .before .before .before .before .before .before .before .positions-sound .ensures (a .arcs .now) (a .edges .now) (a .faces .now) (a .counters .now)) ∙ not-false _ (c .before .before .before .before .before .before .before .before .if4 .left)) (c .before .before .before .before .before .edges-apart .ensures (not-false _ (c .before .before .before .before .if5 .left))) (r .0, r .1, r .2), r .3, r .4)
 
 pub still-sound-spec : {M : Type 1} → statement M
 still-sound-spec =

@@ -1,9 +1,9 @@
-use mathlib.Core.Path.{_≡_, refl, ap, sym, _∙_}
+use mathlib.Core.Path.{ap, sym, _∙_}
 use borrow.Author.Needs.{needs}
 use borrow.Author.Tests.{not-true, not-false}
-use Rattle.rules.specs.Mesh.{Mesh, mesh, Room, room}
+use Rattle.rules.specs.Mesh.{mesh, Room}
 use Rattle.order.specs.Transaction.{left}
-use Rattle.order.proofs.Settling.{meshOf, copied, copied-over, left-alone}
+use Rattle.order.proofs.Settling.{meshOf, copied-over, left-alone}
 use Rattle.order.proofs.settle.settle.Statement.{statement}
 use Rattle.order.proofs.settle.settle.Tie as tie
 
@@ -30,11 +30,13 @@ same-length-5 c = search needs
 
 returns : tie.Need-returns
 returns c =
-    let x = c .before .before .before .before .before .before .before .before .before .before .args in
-    left-alone (mesh (x .vertices .now) (x .positions .now) (x .arcs .now) (x .edges .now) (x .faces .now) (x .counters .now)) (mesh (x .v .now) (x .p .now) (x .a .now) (x .e .now) (x .f .now) (x .t12)) (x .told) (c .before .before .judged .result) (c .before .before .judged .ensures) (sym (c .before .accepted .ensures) ∙ not-true _ (c .if1 .taken))
+    let x = c .before .before .before .before .before .before .before .before .before .before .before .args in
+    left-alone (mesh (x .vertices .now) (x .positions .now) (x .arcs .now) (x .edges .now) (x .faces .now) (x .counters .now)) (mesh (x .v .now) (x .p .now) (x .a .now) (x .e .now) (x .f .now) (x .t12)) (x .told) (c .before .before .judged .result .answer) (c .before .before .judged .ensures .0) (sym (c .before .accepted .ensures) ∙ not-true _ (c .if1 .taken))
 
-copy-set-requires : tie.Need-copy-set-requires
-copy-set-requires c κs = search needs
+copy-back-requires : tie.Need-copy-back-requires
+copy-back-requires c κs =
+    let z = c .before .before .before .before .before .before .before .before .before .before .before .before .before .before .before .before .before .pre .1 in
+    (record { vertices = z .vertices; positions = z .positions; arcs = z .arcs; edges = z .edges; faces = z .faces }, c .before .before .before .before .before .before .before .before .judged .ensures .1)
 
 same-length-6 : tie.Need-same-length-6
 same-length-6 c = search needs
@@ -53,13 +55,12 @@ same-length-10 c = search needs
 
 returns-2 : tie.Need-returns-2
 returns-2 c =
-    let x = c .before .before .before .before .before .before .before .before .before .before .before .before .before .before .before .before .before .before .before .before .before .args in
-    let w = c .before .before .before .before .before .copy-set in
+    let x = c .before .before .before .before .before .before .before .before .before .before .before .before .before .before .before .before .before .before .before .before .before .before .before .args in
     let was = mesh (x .vertices .now) (x .positions .now) (x .arcs .now) (x .edges .now) (x .faces .now) (x .counters .now) in
     let now = mesh (x .v .now) (x .p .now) (x .a .now) (x .e .now) (x .f .now) (x .t12) in
-    let answer = c .before .before .before .before .before .before .before .before .before .before .before .before .before .judged .result in
-    ap (λ (t : Room). left answer (meshOf t (x .t12))) (copied now was (room (w .last .0) (w .last .1 .0) (w .last .1 .1 .0) (w .last .1 .1 .1 .0) (w .last .1 .1 .1 .1 .0)) (c .before .before .before .before .before .before .before .before .before .before .before .before .before .before .before .before .before .before .before .before .before .pre .1) (w .ensures))
-    ∙ copied-over was now (x .told) answer (c .before .before .before .before .before .before .before .before .before .before .before .before .before .judged .ensures) (sym (c .before .before .before .before .before .before .before .before .before .before .before .before .accepted .ensures) ∙ not-false _ (c .before .before .before .before .before .before .before .before .before .before .before .if1 .left))
+    let j = c .before .before .before .before .before .before .before .before .before .before .before .before .before .before .judged in
+    ap (λ (t : Room). left (j .result .answer) (meshOf t (x .t12))) (c .before .before .before .before .before .copy-back .ensures)
+    ∙ copied-over was now (x .told) (j .result .answer) (j .ensures .0) (sym (c .before .before .before .before .before .before .before .before .before .before .before .before .before .accepted .ensures) ∙ not-false _ (c .before .before .before .before .before .before .before .before .before .before .before .before .if1 .left))
 
 pub settle-spec : {M : Type 1} → statement M
 settle-spec =
@@ -73,7 +74,7 @@ settle-spec =
     same-length-4
     same-length-5
     returns
-    copy-set-requires
+    copy-back-requires
     same-length-6
     same-length-7
     same-length-8

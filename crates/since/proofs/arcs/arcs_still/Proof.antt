@@ -1,27 +1,23 @@
-use Rattle.since.proofs.StillLoops.{now-none, now-some, before-none, before-some, sum-all}
 use Prim.Native.Nat.{_-_, _≤_}
 use native.Mathlib.Omega.{arith}
-use mathlib.Core.Path.{_≡_, refl, ap, sym, _∙_}
+use mathlib.Core.Path.{sym, _∙_}
 use mathlib.Core.Logic.{⊎-elim}
 use lib.ListN.{length}
 use borrow.Author.Tests.{not-true, not-false}
-use Rattle.rules.specs.Table.{sumBelow}
-use Rattle.names.proofs.Loops.{Passed, none-yet, one-more, all-passed}
-use Rattle.since.specs.Since.{arcsStill, heldNow, heldBefore}
-use Rattle.since.proofs.StillLoops.{never, arcsWere, arcsAre, arcPasses, addsNow, addsBefore, arc-same, arc-other, sum-stays, sum-goes}
+use Rattle.since.proofs.StillLoops.{never, arcsWere, arcsAre}
+use Rattle.since.proofs.StillArcs.{SoFar, none-so-far, so-same, so-other, so-all}
 use borrow.Author.Needs.{needs}
 use Rattle.since.proofs.arcs.arcs_still.Statement.{statement}
 use Rattle.since.proofs.arcs.arcs_still.Tie as tie
 
 abbrev Inv-loop : tie.InvT-loop
-Inv-loop faces-before before vertices arcs edges faces held₀ was-held₀ i₀ held was-held i = (i ≤ length arcs) × ((held ≤ i) × ((was-held ≤ i) × (Passed (arcPasses (arcsWere before faces-before) (arcsAre vertices arcs edges faces)) i × ((held ≡ sumBelow (addsNow (arcsWere before faces-before) (arcsAre vertices arcs edges faces)) i) × (was-held ≡ sumBelow (addsBefore (arcsWere before faces-before) (arcsAre vertices arcs edges faces)) i)))))
+Inv-loop changed₀ faces-before before vertices arcs edges faces held₀ was-held₀ listed₀ i₀ changed held was-held listed i = (i ≤ length arcs) × ((held ≤ i) × ((was-held ≤ i) × ((listed ≤ 513) × SoFar (arcsWere before faces-before) (arcsAre vertices arcs edges faces) changed held was-held listed i)))
 
 abbrev μ-loop : tie.MeasureT-loop
-μ-loop faces-before before vertices arcs edges faces held₀ was-held₀ i₀ held was-held i = length arcs - i
+μ-loop changed₀ faces-before before vertices arcs edges faces held₀ was-held₀ listed₀ i₀ changed held was-held listed i = length arcs - i
 
 loop-holds : tie.Need-loop-holds Inv-loop μ-loop
-unfolding sumBelow
-loop-holds c = let a = c .args in (search needs, (search needs, (search needs, (none-yet (arcPasses (arcsWere (a .before .now) (a .faces-before .now)) (arcsAre (a .vertices .now) (a .arcs .now) (a .edges .now) (a .faces .now))), (refl, refl)))))
+loop-holds c = let a = c .args in (search needs, (search needs, (search needs, (search needs, none-so-far (arcsWere (a .before .now) (a .faces-before .now)) (arcsAre (a .vertices .now) (a .arcs .now) (a .edges .now) (a .faces .now)) (a .changed .now)))))
 
 mul-same6 : tie.Need-mul-same6 Inv-loop μ-loop
 mul-same6 c = search needs
@@ -83,6 +79,9 @@ holds-requires-2 c κs = search needs
 add-was-held : tie.Need-add-was-held Inv-loop μ-loop
 add-was-held c = search needs
 
+list-row-requires : tie.Need-list-row-requires Inv-loop μ-loop
+list-row-requires c κs = search needs
+
 add-i : tie.Need-add-i Inv-loop μ-loop
 add-i c = search needs
 
@@ -92,31 +91,29 @@ loop-less c = search needs
 loop-again : tie.Need-loop-again Inv-loop μ-loop
 loop-again c =
     let l = c .before .before .before .before .before in
-    let a = c .before .before .before .before .before .before .args in
-    let i = l .loop .i in
+    let a = l .before .args in
     let v = l .loop .inv in
     let m = arcsWere (a .before .now) (a .faces-before .now) in
     let n = arcsAre (a .vertices .now) (a .arcs .now) (a .edges .now) (a .faces .now) in
     let s = c .before .same6 .ensures in
     ⊎-elim
     (λ w.
-    let h = sym s ∙ not-true _ (w .0 .taken) in
-    (search needs, (omega (arith, w .6 .ensures .1, w .9), (omega (arith, w .8 .ensures .1, w .10), (one-more (arcPasses m n) i (v .1 .1 .1 .0) (arc-other m n i (w .3 .ensures (not-false _ (w .4 .left)))), (w .9 ∙ sum-goes (addsNow m n) (l .loop .held) i (v .1 .1 .1 .1 .0) (w .6 .result) (now-some m n i (w .6 .result) h (w .6 .ensures .0)), w .10 ∙ sum-goes (addsBefore m n) (l .loop .was-held) i (v .1 .1 .1 .1 .1) (w .8 .result) (before-some m n i (w .8 .result) h (w .8 .ensures .0))))))))
+    let rest = so-other m n (l .loop .changed) (l .loop .held) (l .loop .was-held) (l .loop .listed) (l .loop .i) (search needs) (search needs) (v .1 .1 .1 .1) (sym s ∙ not-true _ (w .0 .taken)) (w .3 .ensures (not-false _ (w .4 .left))) (w .6 .result) (w .8 .result) (w .6 .ensures .0) (w .8 .ensures .0) (w .10 .last .0) (w .10 .result) (w .10 .ensures .1) in
+    (search needs, (omega (arith, w .6 .ensures .1, w .12), (omega (arith, w .8 .ensures .1, w .13), (omega (arith, w .10 .ensures .0, w .14), rw (w .11, w .12, w .13, w .14) rest)))))
     (λ w.
-    let h = sym s ∙ not-false _ (w .0 .left) in
-    (search needs, (omega (arith, w .1), (omega (arith, w .2), (one-more (arcPasses m n) i (v .1 .1 .1 .0) (arc-same m n i h), (w .1 ∙ sum-stays (addsNow m n) (l .loop .held) i (v .1 .1 .1 .1 .0) (now-none m n i h), w .2 ∙ sum-stays (addsBefore m n) (l .loop .was-held) i (v .1 .1 .1 .1 .1) (before-none m n i h)))))))
+    let rest = so-same m n (l .loop .changed) (l .loop .held) (l .loop .was-held) (l .loop .listed) (l .loop .i) (search needs) (search needs) (v .1 .1 .1 .1) (sym s ∙ not-false _ (w .0 .left)) in
+    (search needs, (omega (arith, w .2), (omega (arith, w .3), (omega (arith, w .4), rw (w .1, w .2, w .3, w .4) rest)))))
     (c .if1 .came)
 
 returns-2 : tie.Need-returns-2 Inv-loop μ-loop
-unfolding arcsStill heldNow heldBefore
 returns-2 c =
     let l = c .before in
-    let a = c .before .before .args in
-    let i = l .loop .i in
+    let a = l .before .args in
     let v = l .loop .inv in
     let m = arcsWere (a .before .now) (a .faces-before .now) in
     let n = arcsAre (a .vertices .now) (a .arcs .now) (a .edges .now) (a .faces .now) in
-    λ e. (sym (all-passed (arcPasses m n) (length (a .arcs .now)) i (omega arith) (omega arith) (v .1 .1 .1 .0)), (sum-all (addsNow m n) (l .loop .held) i (v .1 .1 .1 .1 .0) (length (a .arcs .now)) (omega arith) (omega arith), sum-all (addsBefore m n) (l .loop .was-held) i (v .1 .1 .1 .1 .1) (length (a .arcs .now)) (omega arith) (omega arith)), (omega arith, omega arith))
+    let all = so-all m n (l .loop .changed) (l .loop .held) (l .loop .was-held) (l .loop .listed) (l .loop .i) (search needs) (search needs) (search needs) (v .1 .1 .1 .1) in
+    λ e. (all .0, all .1, (omega arith, omega arith), (v .1 .1 .1 .0, all .2))
 
 pub arcs-still-spec : {M : Type 1} → statement M
 arcs-still-spec =
@@ -145,6 +142,7 @@ arcs-still-spec =
     shared-slice-copy-out-holds-2
     holds-requires-2
     add-was-held
+    list-row-requires
     add-i
     loop-less
     loop-again
