@@ -12,5 +12,6 @@ pub mod StillLoops
 pub mod StillFaces
 pub mod StillPairing
 pub mod StillMeshes
+pub mod StillBlocks
 pub mod Listing
 pub mod StillArcs

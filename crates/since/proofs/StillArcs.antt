@@ -1,5 +1,6 @@
 -- For the loop over the arcs: all that is kept from row to row, where the row is as it was and where it is not.
 use Prim.Native.Nat.{ℕ, _+_, _≤_, _<_}
+use native.Mathlib.Omega.{arith}
 use mathlib.Core.Path.{_≡_, refl, sym}
 use mathlib.Core.Bool.{true, false, cond}
 use mathlib.Core.List.{List, [], _∷_, _++_}
@@ -9,8 +10,9 @@ use Rattle.rules.specs.Mesh.{Mesh}
 use Rattle.proved.specs.Demand.{holdsSome}
 use Rattle.names.proofs.Loops.{Passed, none-yet, one-more, all-passed}
 use Rattle.since.specs.Since.{rowAt, sameRow, arcKept, arcMade, arcsStill, heldNow, heldBefore}
-use Rattle.since.specs.Changes.{Listed}
+use Rattle.since.specs.Changes.{Listed, SameRows}
 use Rattle.since.proofs.StillLoops.{arcPasses, addsNow, addsBefore, arc-same, arc-other, now-none, now-some, before-none, before-some, sum-stays, sum-goes, sum-all}
+use Rattle.since.proofs.StillBlocks.{over-run}
 use Rattle.since.proofs.Listing.{ListedTo, none-listed, listed-more, listed-same, all-listed}
 
 module _ (m n : Mesh) where
@@ -48,6 +50,11 @@ module _ (m n : Mesh) where
           before = sum-goes (addsBefore m n) was i (h .before) b (before-some m n i b s eb);
           rows = listed-more (m .arcs) (n .arcs) list listed i old new (h .rows) list′ listed′ e;
         }
+
+  -- a run of rows that are as they were
+  pub so-run : (list : List ℕ) (held was listed i r : ℕ) → i ≤ r → r ≤ length (n .arcs) → length (m .arcs) ≡ length (n .arcs) → SameRows (m .arcs) (n .arcs) i r → SoFar list held was listed i → SoFar list held was listed r
+  so-run list held was listed i r l b e s h =
+      over-run (SoFar list held was listed) i r l (λ k a q f. so-same list held was listed k (omega (arith, e)) (omega arith) f (s k a q)) h
 
   -- all rows
   pub so-all : (list : List ℕ) (held was listed i : ℕ) → length (m .arcs) ≡ length (n .arcs) → i ≤ length (n .arcs) → length (n .arcs) ≤ i → SoFar list held was listed i

@@ -1,6 +1,7 @@
 // The arcs: a used row keeps its ends and its edge, and leaves or takes only faces of which the row has another key now; an unused one is
 // made whole or stays. The arcs that hold a face are counted where something has changed.
 
+use crate::blocks;
 use crate::changes;
 use crate::changes::CHANGED;
 use crate::changes::TOO_MANY;
@@ -195,7 +196,7 @@ pub fn arcs_still(
     let mut held: usize = 0;
     let mut was_held: usize = 0;
     let mut listed: usize = 0;
-    let mut i = 0;
+    let mut i = blocks::skip6(before, arcs, 0);
     while i < arcs.len() {
         if !rows::same6(before[i], arcs[i]) {
             if !arc_other(
@@ -219,7 +220,7 @@ pub fn arcs_still(
             was_held += holds(before[i]);
             listed = changes::list_row(changed, listed, i);
         }
-        i += 1;
+        i = blocks::skip6(before, arcs, i + 1);
     }
     Held {
         passed: true,

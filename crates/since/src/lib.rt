@@ -2,6 +2,7 @@
 // through once, row against row, and only a row that differs is tested.
 
 pub mod rows; // rows.rt: two rows compared, and a new key
+pub mod blocks; // blocks.rt: blocks of rows that are as they were
 pub mod vertices; // vertices.rt: the vertices
 pub mod edges; // edges.rt: the edges, and a list of the new ones
 pub mod arcs; // arcs.rt: the arcs, and how many hold a face

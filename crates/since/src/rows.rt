@@ -4,7 +4,7 @@ use rules::ArcRow;
 use rules::EdgeRow;
 use rules::VertexRow;
 ghost use mathlib.Core.Path.{_≡_};
-ghost use mathlib.Core.Bool.{cond};
+ghost use mathlib.Core.Bool.{true, cond};
 ghost use lib.ListN.{length};
 ghost use lib.Dec.{eqb};
 ghost use Rattle.rules.specs.Table.{orElse};
@@ -70,6 +70,20 @@ pub fn same6(was: ArcRow, row: ArcRow) -> bool
         return false;
     }
     was[5] == row[5]
+}
+
+// A number that is 0 only where a row is as it was: the differences of all its cells.
+pub fn differ6(was: ArcRow, row: ArcRow) -> u32
+    ensures { λ r. ⌜ (r ≡ 0 → sameRow was row ≡ true) ⌝ }
+{
+    known6(was);
+    known6(row);
+    (was[0] ^ row[0])
+        | (was[1] ^ row[1])
+        | (was[2] ^ row[2])
+        | (was[3] ^ row[3])
+        | (was[4] ^ row[4])
+        | (was[5] ^ row[5])
 }
 
 // Whether a new first cell has a key that was given since, above the last new one.
