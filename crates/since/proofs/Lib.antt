@@ -13,5 +13,6 @@ pub mod StillFaces
 pub mod StillPairing
 pub mod StillMeshes
 pub mod StillBlocks
+pub mod StillRuns
 pub mod Listing
 pub mod StillArcs

@@ -15,7 +15,7 @@ use Rattle.rules.specs.Table.{Table}
 use Rattle.proved.proofs.Rows.{true-T}
 use Rattle.since.specs.Since.{rowAt, sameRow}
 use Rattle.since.specs.Changes.{SameRows}
-use Rattle.since.proofs.StillSteps.{same-six}
+use Rattle.since.proofs.StillSteps.{same-three, same-six}
 
 -- ---- differences
 
@@ -38,6 +38,12 @@ module _ (o r : List ℕ) where
   -- the differences of the first cells together
   abbrev pub apartThree : ℕ
   apartThree = bitOr (bitOr (apart 0) (apart 1)) (apart 2)
+
+  pub none-apart-three : length o ≡ 3 → length r ≡ 3 → apartThree ≡ 0 → sameRow o r ≡ true
+  none-apart-three p q e =
+      let two = or-first (bitOr (apart 0) (apart 1)) (apart 2) e in
+      same-three o r p q (at 0 (or-first (apart 0) (apart 1) two)) (at 1 (or-second (apart 0) (apart 1) two))
+      ∙ eq-eqb (getD o 2 0) (getD r 2 0) (at 2 (or-second (bitOr (apart 0) (apart 1)) (apart 2) e))
 
   abbrev pub apartFive : ℕ
   apartFive = bitOr (bitOr apartThree (apart 3)) (apart 4)

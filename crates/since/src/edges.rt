@@ -1,5 +1,6 @@
 // The edges: a used row stays as it is, an unused one takes a new key or stays, and a new edge has both its arcs. The new ones are listed.
 
+use crate::blocks;
 use crate::rows;
 use rules::ArcRow;
 use rules::EdgeRow;
@@ -92,7 +93,7 @@ pub fn edges_still(
     known_places(*links);
     let mut n: usize = 0;
     let mut last = 0;
-    let mut i = 0;
+    let mut i = blocks::skip3(before, edges, 0);
     while i < edges.len() {
         if !rows::same3(before[i], edges[i]) {
             if n == NEW {
@@ -105,7 +106,7 @@ pub fn edges_still(
             n += 1;
             last = edges[i][0];
         }
-        i += 1;
+        i = blocks::skip3(before, edges, i + 1);
     }
     n + 1
 }

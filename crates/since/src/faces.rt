@@ -2,6 +2,7 @@
 // on the rings of faces of which the row has another key are counted, and with the arcs that hold a face they add up.
 
 use crate::arcs as table;
+use crate::blocks;
 use crate::changes::CHANGED;
 use crate::rows;
 use rules::ArcRow;
@@ -130,7 +131,7 @@ pub fn faces_still(
     let mut grown: usize = 0;
     let mut gone: usize = 0;
     let mut last = 0;
-    let mut i = 0;
+    let mut i = blocks::skip3(were, faces, 0);
     while i < faces.len() {
         if !rows::same3(were[i], faces[i]) {
             let size = gain(arcs, faces[i], i + 1);
@@ -145,7 +146,7 @@ pub fn faces_still(
             gone += loss(before, were[i]);
             last = rows::last_new(last, were[i][0], faces[i][0]);
         }
-        i += 1;
+        i = blocks::skip3(were, faces, i + 1);
     }
     Rings {
         passed: true,

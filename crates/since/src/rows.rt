@@ -73,6 +73,14 @@ pub fn same6(was: ArcRow, row: ArcRow) -> bool
 }
 
 // A number that is 0 only where a row is as it was: the differences of all its cells.
+pub fn differ3(was: EdgeRow, row: EdgeRow) -> u32
+    ensures { λ r. ⌜ (r ≡ 0 → sameRow was row ≡ true) ⌝ }
+{
+    known3(was);
+    known3(row);
+    (was[0] ^ row[0]) | (was[1] ^ row[1]) | (was[2] ^ row[2])
+}
+
 pub fn differ6(was: ArcRow, row: ArcRow) -> u32
     ensures { λ r. ⌜ (r ≡ 0 → sameRow was row ≡ true) ⌝ }
 {

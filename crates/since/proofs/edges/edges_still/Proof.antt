@@ -2,13 +2,14 @@ use Rattle.since.proofs.StillLoops.{links-all}
 use Prim.Native.Nat.{_+_, _-_, _≤_}
 use native.Mathlib.Omega.{arith}
 use mathlib.Core.Path.{_≡_, refl, ap, sym, _∙_}
-use mathlib.Core.List.{List}
+use mathlib.Core.List.{[]}
 use mathlib.Core.Logic.{⊎-elim}
 use lib.ListN.{length, length-set, take}
 use borrow.Author.Tests.{not-false}
 use Rattle.names.proofs.Loops.{Passed, none-yet, one-more, all-passed}
 use Rattle.since.specs.Since.{lastNew, newLinks}
 use Rattle.since.proofs.StillLoops.{edgePasses, edge-same, edge-other, last-stays, made-last, links-stay, links-grow}
+use Rattle.since.proofs.StillRuns.{EdgesSoFar, edges-run}
 use borrow.Author.Needs.{needs}
 use Rattle.since.proofs.edges.edges_still.Statement.{statement}
 use Rattle.since.proofs.edges.edges_still.Tie as tie
@@ -22,9 +23,15 @@ abbrev μ-loop : tie.MeasureT-loop
 known-places-requires : tie.Need-known-places-requires Inv-loop μ-loop
 known-places-requires c κs = search needs
 
+skip3-requires : tie.Need-skip3-requires Inv-loop μ-loop
+skip3-requires c κs = search needs
+
 loop-holds : tie.Need-loop-holds Inv-loop μ-loop
 unfolding lastNew newLinks
-loop-holds c = let a = c .before .before .args in (search needs, (search needs, (c .known-places .ensures, (refl, (refl, none-yet (edgePasses (a .before .now) (a .edges .now) (a .arcs .now) (a .from) (a .to)))))))
+loop-holds c =
+    let a = c .before .before .before .args in
+    let r = c .skip3 in
+    (search needs, (search needs, (c .before .known-places .ensures, edges-run (a .before .now) (a .edges .now) (a .arcs .now) (a .from) (a .to) 0 [] 0 (r .result) (r .ensures .0) (r .ensures .2) (refl, (refl, none-yet (edgePasses (a .before .now) (a .edges .now) (a .arcs .now) (a .from) (a .to)))))))
 
 mul-same3 : tie.Need-mul-same3 Inv-loop μ-loop
 mul-same3 c = search needs
@@ -89,28 +96,36 @@ index-1-last c = search needs
 index-2-last : tie.Need-index-2-last Inv-loop μ-loop
 index-2-last c = search needs
 
-add-i : tie.Need-add-i Inv-loop μ-loop
-add-i c = search needs
+add-skip3 : tie.Need-add-skip3 Inv-loop μ-loop
+add-skip3 c = search needs
+
+skip3-requires-2 : tie.Need-skip3-requires-2 Inv-loop μ-loop
+skip3-requires-2 c κs = search needs
 
 loop-less : tie.Need-loop-less Inv-loop μ-loop
 loop-less c = search needs
 
 loop-again : tie.Need-loop-again Inv-loop μ-loop
 loop-again c =
-    let l = c .before .before .before .before .before in
-    let a = c .before .before .before .before .before .before .before .before .args in
+    let l = c .before .before .before .before .before .before in
+    let a = l .before .before .before .before .args in
     let i = l .loop .i in
     let v = l .loop .inv in
     let q = edgePasses (a .before .now) (a .edges .now) (a .arcs .now) (a .from) (a .to) in
-    let s = c .before .same3 .ensures in
+    let s = c .before .before .same3 .ensures in
+    let j = c .before .if1 in
+    let one : (j .n ≤ 128) × ((length (j .links) ≡ 128) × EdgesSoFar (a .before .now) (a .edges .now) (a .arcs .now) (a .from) (a .to) (j .last) (take (j .n) (j .links)) (i + 1)) =
     ⊎-elim
     (λ w.
     let h = sym (w .4 .ensures) ∙ not-false _ (w .5 .left) in
-    (search needs, (omega arith, (ap length (w .7) ∙ length-set (l .loop .links) (l .loop .n) _ ∙ v .1 .1 .0, (w .9 ∙ made-last (a .before .now) (a .edges .now) (a .arcs .now) (a .from) (a .to) (l .loop .last) i h, (links-grow (a .before .now) (a .edges .now) (a .arcs .now) (a .from) (a .to) (l .loop .last) i h (l .loop .links) (c .if1 .links) (l .loop .n) (c .if1 .n) (omega arith) (v .1 .1 .1 .1 .0) (w .7) (w .8), one-more q i (v .1 .1 .1 .1 .1) (edge-other (a .before .now) (a .edges .now) (a .arcs .now) (a .from) (a .to) (l .loop .last) i h (v .1 .1 .1 .0))))))))
+    (omega arith, (ap length (w .7) ∙ length-set (l .loop .links) (l .loop .n) _ ∙ v .1 .1 .0, (w .9 ∙ made-last (a .before .now) (a .edges .now) (a .arcs .now) (a .from) (a .to) (l .loop .last) i h, (links-grow (a .before .now) (a .edges .now) (a .arcs .now) (a .from) (a .to) (l .loop .last) i h (l .loop .links) (j .links) (l .loop .n) (j .n) (omega arith) (v .1 .1 .1 .1 .0) (w .7) (w .8), one-more q i (v .1 .1 .1 .1 .1) (edge-other (a .before .now) (a .edges .now) (a .arcs .now) (a .from) (a .to) (l .loop .last) i h (v .1 .1 .1 .0)))))))
     (λ w.
     let h = sym s ∙ not-false _ (w .0 .left) in
-    (search needs, (omega arith, (ap length (w .1) ∙ v .1 .1 .0, (w .3 ∙ last-stays (a .before .now) (a .edges .now) (l .loop .last) i (v .1 .1 .1 .0) h, (rw (w .1, w .2) (links-stay (a .before .now) (a .edges .now) (a .arcs .now) (a .from) (a .to) _ i (v .1 .1 .1 .1 .0) h), one-more q i (v .1 .1 .1 .1 .1) (edge-same (a .before .now) (a .edges .now) (a .arcs .now) (a .from) (a .to) i h)))))))
-    (c .if1 .came)
+    (omega arith, (ap length (w .1) ∙ v .1 .1 .0, (w .3 ∙ last-stays (a .before .now) (a .edges .now) (l .loop .last) i (v .1 .1 .1 .0) h, (rw (w .1, w .2) (links-stay (a .before .now) (a .edges .now) (a .arcs .now) (a .from) (a .to) _ i (v .1 .1 .1 .1 .0) h), one-more q i (v .1 .1 .1 .1 .1) (edge-same (a .before .now) (a .edges .now) (a .arcs .now) (a .from) (a .to) i h))))))
+    (j .came)
+    in
+    let r = c .skip32 in
+    (r .ensures .1, (one .0, (one .1 .0, edges-run (a .before .now) (a .edges .now) (a .arcs .now) (a .from) (a .to) (j .last) (take (j .n) (j .links)) (i + 1) (r .result) (r .ensures .0) (r .ensures .2) (one .1 .1))))
 
 add-result : tie.Need-add-result Inv-loop μ-loop
 add-result c = search needs
@@ -118,7 +133,7 @@ add-result c = search needs
 returns-3 : tie.Need-returns-3 Inv-loop μ-loop
 returns-3 c =
     let l = c .before in
-    let a = c .before .before .before .before .args in
+    let a = c .before .before .before .before .before .args in
     let v = l .loop .inv in
     λ h. (sym (all-passed (edgePasses (a .before .now) (a .edges .now) (a .arcs .now) (a .from) (a .to)) (length (a .edges .now)) (l .loop .i) (omega arith) (omega arith) (v .1 .1 .1 .1 .1)), (omega arith, links-all (a .before .now) (a .edges .now) (l .loop .links) (l .loop .n) (l .loop .i) (length (a .edges .now)) (omega arith) (omega arith) (v .1 .1 .1 .1 .0)))
 
@@ -129,6 +144,7 @@ edges-still-spec =
     Inv-loop
     μ-loop
     known-places-requires
+    skip3-requires
     loop-holds
     mul-same3
     shared-slice-copy-out-same3
@@ -151,7 +167,8 @@ edges-still-spec =
     mul-last
     index-1-last
     index-2-last
-    add-i
+    add-skip3
+    skip3-requires-2
     loop-less
     loop-again
     add-result
