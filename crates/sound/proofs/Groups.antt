@@ -135,8 +135,32 @@ module _ (m : Mesh) where
       (and-i (edgesSound m) (arcsSound m) (and-i (unusedZero (m .edges)) _ (and-l (unusedZero (m .edges)) _ z₂) (and-i edgeKeys (bothArcs m && edgeEnds m) (and-l edgeKeys faceKeys k₁) (and-i (bothArcs m) (edgeEnds m) (s .both-arcs) (sound-ends m s))))
       (and-i (unusedZero (m .arcs)) _ (and-l (unusedZero (m .arcs)) _ z₁) (and-i (looseLinks m) twoEach (sound-loose m s) (same-T _ _ (sound-twice m s))))))))
 
-  pub rings-of : T (sound m) → T (ringsFull m)
-  rings-of t = sound-full m (parts m t)
+  -- and each table of it
+  pub vertices-of : T (sound m) → T (verticesSound m)
+  unfolding rowsSound
+  vertices-of t = and-l (verticesSound m) _ (and-r (withinLimits m) _ (rows-of t))
+
+  pub positions-of : T (sound m) → T (positionsSound m)
+  unfolding rowsSound
+  positions-of t = and-l (positionsSound m) _ (and-r (verticesSound m) _ (and-r (withinLimits m) _ (rows-of t)))
+
+  rows-faces : T (sound m) → T (facesSound m && (edgesSound m && arcsSound m))
+  unfolding rowsSound
+  rows-faces t = and-r (positionsSound m) _ (and-r (verticesSound m) _ (and-r (withinLimits m) _ (rows-of t)))
+
+  pub edges-of : T (sound m) → T (edgesSound m)
+  edges-of t = and-l (edgesSound m) (arcsSound m) (and-r (facesSound m) _ (rows-faces t))
+
+  pub arcs-of : T (sound m) → T (arcsSound m)
+  arcs-of t = and-r (edgesSound m) (arcsSound m) (and-r (facesSound m) _ (rows-faces t))
+
+  pub faces-of : T (sound m) → T (facesSound m && ringsFull m)
+  faces-of t = and-i (facesSound m) (ringsFull m) (and-l (facesSound m) _ (rows-faces t)) (sound-full m (parts m t))
+
+  -- one table after the other
+  pub rows-all : withinLimits m ≡ true → verticesSound m ≡ true → positionsSound m ≡ true → edgesSound m ≡ true → arcsSound m ≡ true → (facesSound m && ringsFull m) ≡ true → (rowsSound m ≡ true) × (ringsFull m ≡ true)
+  unfolding rowsSound
+  rows-all l v p e a f = let h = T-true (facesSound m) (and-l (facesSound m) (ringsFull m) (true-T f)) in (rw (l, v, p, h, e, a), T-true (ringsFull m) (and-r (facesSound m) (ringsFull m) (true-T f)))
 
   pub pairs-of : T (sound m) → T (pairsDiffer m)
   pairs-of t = parts m t .pairs-differ

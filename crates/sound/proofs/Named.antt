@@ -1,9 +1,10 @@
 -- Names in a list as facts about a table's rows: keys that differ, and edges that join different pairs.
 use Prim.Native.Nat.{ℕ, zero, suc, _+_, _-_, _≤_, _<_}
 use native.Mathlib.Nat.{le-of-suc-le-suc, not-suc-le-zero}
+use native.Mathlib.Numerals.{add-one}
 use native.Mathlib.Omega.{arith}
 use mathlib.Core.Path.{_≡_, refl, ap, sym, subst, _∙_}
-use mathlib.Core.Bool.{Bool, true, false, not, _||_}
+use mathlib.Core.Bool.{Bool, true, false, not, _&&_, _||_}
 use mathlib.Core.Logic.{_⊎_, inl, inr}
 use mathlib.Core.List.{List, [], _∷_, map}
 use lib.ListN.{length, getD, set, take, drop, length-map}
@@ -24,7 +25,7 @@ use Rattle.names.specs.Names.{pairName}
 use Rattle.names.specs.Rising.{lastBefore, rises}
 use Rattle.names.proofs.Names.{differ-shows, differ-from, shown, rising-differ, last-more}
 use Rattle.names.proofs.Pairs.{pair-swap, pair-parts, pair-some, pair-ends}
-use Rattle.sound.specs.Names.{firsts, edgeName}
+use Rattle.sound.specs.Names.{firsts, keysRise, edgeName}
 
 -- ---- any names
 
@@ -108,23 +109,40 @@ module _ (t : Table) (list : List ℕ) (named : take (length t) list ≡ firsts 
       back h = differ-links (λ r. getD r 0 0) t list named none some (λ l k a b e. one-key t h l k a b (let p = cell-at l a in let q = cell-at k b in omega arith))
 
 -- keys that rise differ
-pub keys-rise : (t : Table) → allBelow (rises (firsts t)) (length t) ≡ true → true ≡ distinct (keysOf t)
+pub keys-rise : (t : Table) → keysRise t ≡ true → true ≡ distinct (keysOf t)
+unfolding keysRise
 keys-rise t e =
     let n = length-map t (λ r. getD r 0 0) in
     shown (firsts t) (length t) (rising-differ (firsts t) (length t) (true-T e)) ∙ keys-differ t (firsts t) (take-all (length t) (firsts t) (omega arith))
 
--- a row further, by its first cell
-module _ (t : Table) (i : ℕ) (l : i < length t) (last : ℕ) (e : last ≡ lastBefore (firsts t) i) where
-  pub rises-row : (eqb (getD (getD t i []) 0 0) 0 || ltb last (getD (getD t i []) 0 0)) ≡ rises (firsts t) i
-  unfolding rises
-  rises-row = rw (e, getD-map (λ r. getD r 0 0) t i l)
+-- a loop that tells whether they rise: whether they do before row i, and the last of them
+module _ (t : Table) where
+  abbrev pub Risen : ℕ → Bool → ℕ → Type 0
+  Risen i rising last = (rising ≡ allBelow (rises (firsts t)) i) × (last ≡ lastBefore (firsts t) i)
 
-  pub last-row : orElse (getD (getD t i []) 0 0) last ≡ lastBefore (firsts t) (i + 1)
-  last-row = rw (last-more (firsts t) i, e, getD-map (λ r. getD r 0 0) t i l)
+  pub risen-none : Risen 0 true 0
+  unfolding allBelow lastBefore
+  risen-none = (refl, refl)
 
-pub last-none : (t : Table) → 0 ≡ lastBefore (firsts t) 0
-unfolding lastBefore
-last-none t = refl
+  pub risen-all : (i : ℕ) → length t ≤ i → i ≤ length t → (rising : Bool) (last : ℕ) → Risen i rising last → rising ≡ true → keysRise t ≡ true
+  unfolding keysRise
+  risen-all i a b rising last h e = let same : i ≡ length t = omega arith in sym (rw same at (h .0)) ∙ e
+
+  -- a row further, by its first cell
+  module _ (i : ℕ) (l : i < length t) (rising : Bool) (last : ℕ) (h : (rising ≡ allBelow (rises (firsts t)) i) × (last ≡ lastBefore (firsts t) i)) where
+    rises-row : (eqb (getD (getD t i []) 0 0) 0 || ltb last (getD (getD t i []) 0 0)) ≡ rises (firsts t) i
+    unfolding rises
+    rises-row = rw (h .1, getD-map (λ r. getD r 0 0) t i l)
+
+    last-row : orElse (getD (getD t i []) 0 0) last ≡ lastBefore (firsts t) (i + 1)
+    last-row = rw (last-more (firsts t) i, h .1, getD-map (λ r. getD r 0 0) t i l)
+
+    rising-row : (rising && (eqb (getD (getD t i []) 0 0) 0 || ltb last (getD (getD t i []) 0 0))) ≡ allBelow (rises (firsts t)) (i + 1)
+    unfolding allBelow
+    rising-row = rw (add-one i, h .0, rises-row)
+
+    pub risen-more : (more : Bool) (next : ℕ) → more ≡ (rising && (eqb (getD (getD t i []) 0 0) 0 || ltb last (getD (getD t i []) 0 0))) → next ≡ orElse (getD (getD t i []) 0 0) last → Risen (i + 1) more next
+    risen-more more next e q = (e ∙ rising-row, q ∙ last-row)
 
 -- ---- pairs
 

@@ -30,6 +30,10 @@ module _ (v : Table) (p : List (List Float)) (arcs e faces : Table) (k : List �
 
 -- ---- the loop
 
+pub no-second : (a b : Bool) → false ≡ b → false ≡ (a && b)
+no-second true b e = e
+no-second false b e = refl
+
 module _ (m : Mesh) where
   abbrev full : ℕ → Bool
   full f = ringWhole m f && ringLinked m f

@@ -1,23 +1,29 @@
 // The ring of each face. It carries document 01's "a face's record names an arc that holds it; next from there returns after 3 to 64 arcs
 // with distinct sources, which are all the arcs that hold that face, and previous runs them backwards".
 // That no arc off its ring holds a face, and none a face that is not there, is one sum: the rings together have as many arcs as hold a face.
-// What document 01 asks of next and previous of an arc with a face is told by its ring too.
+// What document 01 asks of next and previous of an arc with a face is told by its ring too, and what it asks of a face's row on the way.
 
+use crate::blanks;
+use crate::keys;
 use crate::links;
+use crate::passes;
 use rules::ArcRow;
 use rules::FaceRow;
 use rules::RING;
 use tables::rows;
 ghost use mathlib.Core.Path.{_≡_};
-ghost use mathlib.Core.Bool.{not, _&&_, cond};
+ghost use mathlib.Core.Bool.{true, not, _&&_, cond};
 ghost use mathlib.Core.List.{List};
-ghost use Prim.Native.Nat.{ℕ, _≤_};
+ghost use Prim.Native.Nat.{_≤_};
 ghost use lib.ListN.{length, getD};
 ghost use lib.Ieee.{Float};
 ghost use lib.Dec.{eqb, leb};
 ghost use Rattle.rules.specs.Table.{Table, cell, count, allBelow};
 ghost use Rattle.rules.specs.Mesh.{Mesh, mesh, faceArc};
 ghost use Rattle.proved.specs.Demand.{holdsSome};
+ghost use Rattle.sound.specs.Tests.{faceTest};
+ghost use Rattle.sound.specs.Names.{keysRise};
+ghost use Rattle.sound.specs.Parts.{facesSound};
 ghost use Rattle.sound.specs.Rings.{ringArc, ringLength, ringRow, apart, linkedLength, ringsFull};
 
 // ---- one ring, walked once
@@ -217,28 +223,63 @@ fn linked_length(sources: &mut [u32; RING], arcs: &[ArcRow], first: u32, f: usiz
     0
 }
 
-// ---- all rings
+// ---- all faces
 
-// Every face's ring is whole and linked, and together they have as many arcs as hold a face, which the caller has counted.
-pub fn rings_sound(arcs: &[ArcRow], faces: &[FaceRow], held: usize) -> bool
+// What is asked of a face's row by itself.
+fn face_row(counter: u32, row: FaceRow) -> bool
+    ensures { λ r. ⌜ r ≡ faceTest counter row ⌝ }
+{
+    if !blanks::blank3(row) {
+        return false;
+    }
+    keys::key_below(row[0], counter)
+}
+
+// Every face's row passes, its ring is whole and linked, and together the rings have as many arcs as hold a face, which the caller has
+// counted. It tells too whether the keys of the faces rise.
+pub fn rings_sound(
+    arcs: &[ArcRow],
+    faces: &[FaceRow],
+    counters: &[u32; 3],
+    held: usize,
+) -> passes::Rows
     requires { ⌜ held ≡ count holdsSome (now arcs) ⌝ }
-    ensures { λ r. ⌜ ((v : Table) (p : List (List Float)) (e : Table) (k : List ℕ) → r ≡ ringsFull (mesh v p (now (arcs .entry)) e (now (faces .entry)) k)) ⌝ }
+    ensures { λ r. ⌜ ((v : Table) (p : List (List Float)) (e : Table) → r .passed ≡ (facesSound (mesh v p (now (arcs .entry)) e (now (faces .entry)) (now (counters .entry))) && ringsFull (mesh v p (now (arcs .entry)) e (now (faces .entry)) (now (counters .entry))))) × (r .rising ≡ true → keysRise (now (faces .entry)) ≡ true) ⌝ }
 {
     let mut sources = [0u32; RING];
     let mut left = held;
+    let mut rising = true;
+    let mut last = 0;
     let mut i = 0;
     while i < faces.len() {
+        if !face_row(counters[2], faces[i]) {
+            return passes::Rows {
+                passed: false,
+                rising: false,
+            };
+        }
+        rising = keys::still_rising(rising, last, faces[i][0]);
+        last = names::or_last(faces[i][0], last);
         if faces[i][0] != 0 {
             let n = linked_length(&mut sources, arcs, faces[i][1], i + 1);
             if n == 0 {
-                return false;
+                return passes::Rows {
+                    passed: false,
+                    rising: false,
+                };
             }
             if n > left {
-                return false;
+                return passes::Rows {
+                    passed: false,
+                    rising: false,
+                };
             }
             left -= n;
         }
         i += 1;
     }
-    left == 0
+    passes::Rows {
+        passed: left == 0,
+        rising,
+    }
 }

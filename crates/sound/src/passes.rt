@@ -1,5 +1,6 @@
 // One pass over each table: what document 01 asks of a row of it, all at once. A phrase is a function of keys.rt, edges.rt, links.rt or
 // blanks.rt, on one row. "Each arc's edge joins its ends" is a count: each edge names two arcs that hold it, and there are no others.
+// A pass over a table with keys tells on the way whether they rise from row to row (keys.rt). That over the faces is in faces.rt.
 
 use crate::blanks;
 use crate::edges;
@@ -7,11 +8,10 @@ use crate::keys;
 use crate::links;
 use rules::ArcRow;
 use rules::EdgeRow;
-use rules::FaceRow;
 use rules::PositionRow;
 use rules::VertexRow;
 ghost use mathlib.Core.Path.{_≡_};
-ghost use mathlib.Core.Bool.{cond};
+ghost use mathlib.Core.Bool.{true, cond};
 ghost use mathlib.Core.List.{List, map};
 ghost use Prim.Native.Nat.{ℕ, _+_, _*_, _≤_};
 ghost use lib.ListN.{length, take};
@@ -19,9 +19,21 @@ ghost use lib.Ieee.{Float};
 ghost use Rattle.rules.specs.Table.{Table, count, used};
 ghost use Rattle.rules.specs.Mesh.{mesh};
 ghost use Rattle.proved.specs.Demand.{holdsSome};
-ghost use Rattle.sound.specs.Tests.{vertexTest, arcTest, edgeTest, faceTest};
-ghost use Rattle.sound.specs.Names.{edgeName};
-ghost use Rattle.sound.specs.Parts.{verticesSound, positionsSound, arcsSound, edgesSound, facesSound, heldIf, usedIf};
+ghost use Rattle.sound.specs.Tests.{vertexTest, arcTest, edgeTest};
+ghost use Rattle.sound.specs.Names.{edgeName, keysRise};
+ghost use Rattle.sound.specs.Parts.{verticesSound, positionsSound, arcsSound, edgesSound, heldIf, usedIf};
+
+// Whether every row passes, and whether the keys were found to rise.
+pub struct Rows {
+    pub passed: bool,
+    pub rising: bool,
+}
+
+// How many edges there are, plus one, where every row passes, else 0; and whether their keys were found to rise.
+pub struct Named {
+    pub there: usize,
+    pub rising: bool,
+}
 
 // ---- one row
 
@@ -58,28 +70,29 @@ fn edge_row(vertices: &[VertexRow], arcs: &[ArcRow], counter: u32, row: EdgeRow,
     edges::edge_arcs(vertices, arcs, row, e)
 }
 
-fn face_row(counter: u32, row: FaceRow) -> bool
-    ensures { λ r. ⌜ r ≡ faceTest counter row ⌝ }
-{
-    if !blanks::blank3(row) {
-        return false;
-    }
-    keys::key_below(row[0], counter)
-}
-
 // ---- every row
 
-pub fn vertices_sound(vertices: &[VertexRow], arcs: &[ArcRow], counters: &[u32; 3]) -> bool
-    ensures { λ r. ⌜ ((p : List (List Float)) (e f : Table) → r ≡ verticesSound (mesh (now (vertices .entry)) p (now (arcs .entry)) e f (now (counters .entry)))) ⌝ }
+pub fn vertices_sound(vertices: &[VertexRow], arcs: &[ArcRow], counters: &[u32; 3]) -> Rows
+    ensures { λ r. ⌜ ((p : List (List Float)) (e f : Table) → r .passed ≡ verticesSound (mesh (now (vertices .entry)) p (now (arcs .entry)) e f (now (counters .entry)))) × (r .rising ≡ true → keysRise (now (vertices .entry)) ≡ true) ⌝ }
 {
+    let mut rising = true;
+    let mut last = 0;
     let mut i = 0;
     while i < vertices.len() {
         if !vertex_row(arcs, counters[0], vertices[i], i + 1) {
-            return false;
+            return Rows {
+                passed: false,
+                rising: false,
+            };
         }
+        rising = keys::still_rising(rising, last, vertices[i][0]);
+        last = names::or_last(vertices[i][0], last);
         i += 1;
     }
-    true
+    Rows {
+        passed: true,
+        rising,
+    }
 }
 
 pub fn positions_sound(vertices: &[VertexRow], positions: &[PositionRow]) -> bool
@@ -142,39 +155,34 @@ pub fn arcs_held(arcs: &[ArcRow], named: usize) -> usize
     held + 1
 }
 
-// How many edges there are, plus one, where every row passes; else 0. Their names are written on the way.
+// The names of the edges are written on the way.
 pub fn edges_named(
     names: &mut [u32],
     vertices: &[VertexRow],
     arcs: &[ArcRow],
     edges: &[EdgeRow],
     counters: &[u32; 3],
-) -> usize
+) -> Named
     requires { ⌜ (length (now edges) ≤ 8192) × (length (now edges) ≤ length (now names)) ⌝ }
-    ensures { λ r. ⌜ ((p : List (List Float)) (f : Table) → r ≡ usedIf (edgesSound (mesh (now (vertices .entry)) p (now (arcs .entry)) (now (edges .entry)) f (now (counters .entry)))) (now (edges .entry))) × ((r ≡ 0 → ⊥) → take (length (now (edges .entry))) (now (names .exit)) ≡ map (edgeName (now (arcs .entry))) (now (edges .entry))) ⌝ }
+    ensures { λ r. ⌜ ((p : List (List Float)) (f : Table) → r .there ≡ usedIf (edgesSound (mesh (now (vertices .entry)) p (now (arcs .entry)) (now (edges .entry)) f (now (counters .entry)))) (now (edges .entry))) × ((r .there ≡ 0 → ⊥) → take (length (now (edges .entry))) (now (names .exit)) ≡ map (edgeName (now (arcs .entry))) (now (edges .entry))) × (r .rising ≡ true → keysRise (now (edges .entry)) ≡ true) ⌝ }
 {
     let mut there: usize = 0;
+    let mut rising = true;
+    let mut last = 0;
     let mut i = 0;
     while i < edges.len() {
         if !edge_row(vertices, arcs, counters[1], edges[i], i + 1) {
-            return 0;
+            return Named {
+                there: 0,
+                rising: false,
+            };
         }
         names[i] = edges::edge_name(arcs, edges[i]);
         there = plus(there, edges[i][0] != 0);
+        rising = keys::still_rising(rising, last, edges[i][0]);
+        last = names::or_last(edges[i][0], last);
         i += 1;
     }
-    there + 1
-}
-
-pub fn faces_sound(faces: &[FaceRow], counters: &[u32; 3]) -> bool
-    ensures { λ r. ⌜ ((v : Table) (p : List (List Float)) (a e : Table) → r ≡ facesSound (mesh v p a e (now (faces .entry)) (now (counters .entry)))) ⌝ }
-{
-    let mut i = 0;
-    while i < faces.len() {
-        if !face_row(counters[2], faces[i]) {
-            return false;
-        }
-        i += 1;
-    }
-    true
+    there += 1;
+    Named { there, rising }
 }

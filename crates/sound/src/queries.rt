@@ -17,50 +17,15 @@ use tables::sets;
 use walks::rings;
 ghost use mathlib.Core.Path.{_≡_};
 ghost use mathlib.Core.Bool.{not};
-ghost use mathlib.Core.List.{map};
 ghost use Prim.Native.Nat.{ℕ, _≤_};
-ghost use lib.ListN.{length, take};
+ghost use lib.ListN.{length};
 ghost use Rattle.rules.specs.Table.{every};
 ghost use Rattle.rules.specs.Mesh.{Mesh, mesh, faceArc};
 ghost use Rattle.rules.specs.Link as Link;
 ghost use Rattle.rules.specs.Sound.{sound};
 ghost use Rattle.rules.specs.Call.{checkSound, checkFinished, faceArity, leadless};
-ghost use Rattle.sound.specs.Names.{edgeName};
-ghost use Rattle.sound.specs.Parts.{rowsSound, heldIf};
 
 // ---- soundness
-
-// Sizes, and what one pass over each table tells: how many arcs hold a face, plus one, or 0 where some row fails. The names of the edges
-// stand in the list then.
-fn rows_held(
-    names: &mut [u32; ROWS],
-    vertices: &[VertexRow],
-    positions: &[PositionRow],
-    arcs: &[ArcRow],
-    edges: &[EdgeRow],
-    faces: &[FaceRow],
-    counters: &[u32; 3],
-) -> usize
-    ensures { λ r. ⌜ (r ≡ heldIf (rowsSound (mesh (now (vertices .entry)) (now (positions .entry)) (now (arcs .entry)) (now (edges .entry)) (now (faces .entry)) (now (counters .entry)))) (now (arcs .entry))) × ((r ≡ 0 → ⊥) → take (length (now (edges .entry))) (now (names .exit)) ≡ map (edgeName (now (arcs .entry))) (now (edges .entry))) ⌝ }
-{
-    if !sets::within_limits(vertices, positions, arcs, edges, faces) {
-        return 0;
-    }
-    if !passes::vertices_sound(vertices, arcs, counters) {
-        return 0;
-    }
-    if !passes::positions_sound(vertices, positions) {
-        return 0;
-    }
-    if !passes::faces_sound(faces, counters) {
-        return 0;
-    }
-    let there = passes::edges_named(names, vertices, arcs, edges, counters);
-    if there == 0 {
-        return 0;
-    }
-    passes::arcs_held(arcs, (there - 1) * 2)
-}
 
 // Whether the tables are sound: sizes and rows first, on which the rest stands.
 pub fn is_sound(
@@ -73,26 +38,38 @@ pub fn is_sound(
 ) -> bool
     ensures { λ r. ⌜ r ≡ sound (mesh (now (vertices .entry)) (now (positions .entry)) (now (arcs .entry)) (now (edges .entry)) (now (faces .entry)) (now (counters .entry))) ⌝ }
 {
+    if !sets::within_limits(vertices, positions, arcs, edges, faces) {
+        return false;
+    }
+    let vertex_rows = passes::vertices_sound(vertices, arcs, counters);
+    if !vertex_rows.passed {
+        return false;
+    }
+    if !passes::positions_sound(vertices, positions) {
+        return false;
+    }
     let mut names = [0u32; ROWS];
-    let held = rows_held(
-        &mut names,
-        vertices,
-        positions,
-        arcs,
-        edges,
-        faces,
-        counters,
-    );
+    let edge_rows = passes::edges_named(&mut names, vertices, arcs, edges, counters);
+    if edge_rows.there == 0 {
+        return false;
+    }
+    let held = passes::arcs_held(arcs, (edge_rows.there - 1) * 2);
     if held == 0 {
         return false;
     }
-    if !faces::rings_sound(arcs, faces, held - 1) {
+    let face_rows = faces::rings_sound(arcs, faces, counters, held - 1);
+    if !face_rows.passed {
         return false;
     }
     if !names::names_differ(&names, edges.len()) {
         return false;
     }
-    keys::keys_differ(&mut names, vertices, edges, faces)
+    let ordered = keys::Ordered {
+        vertices: vertex_rows.rising,
+        edges: edge_rows.rising,
+        faces: face_rows.rising,
+    };
+    keys::keys_differ(&mut names, vertices, edges, faces, ordered)
 }
 
 // ---- the queries

@@ -1,32 +1,84 @@
 use Prim.Native.Nat.{_-_, _≤_}
 use native.Mathlib.Omega.{arith}
 use mathlib.Core.Path.{refl, sym, _∙_}
+use mathlib.Core.List.{[]}
 use mathlib.Core.Logic.{⊎-elim}
-use lib.ListN.{length}
-use Rattle.proved.proofs.Rows.{cell-row}
+use lib.ListN.{length, getD}
+use borrow.Author.Tests.{not-true, not-false}
+use Rattle.rules.specs.Mesh.{mesh}
+use Rattle.proved.proofs.Rows.{true-T, cell-row}
+use Rattle.names.proofs.Loops.{Passed, none-yet, one-more, all-passed, one-failed}
+use Rattle.sound.specs.Tests.{faceTest}
+use Rattle.sound.specs.Parts.{facesSound}
+use Rattle.sound.proofs.Rows.{faces-rows}
+use Rattle.sound.proofs.Named.{Risen, risen-none, risen-more, risen-all}
 use Rattle.sound.proofs.RingSums.{bare}
-use Rattle.sound.proofs.RingFull.{bare-full, Going, going-start, going-unused, going-used, going-end, length-fails, sum-fails}
+use Rattle.sound.proofs.RingFull.{bare-full, no-second, Going, going-start, going-unused, going-used, going-end, length-fails, sum-fails}
 use borrow.Author.Needs.{needs}
 use Rattle.sound.proofs.faces.rings_sound.Statement.{statement}
 use Rattle.sound.proofs.faces.rings_sound.Tie as tie
 
 abbrev Inv-loop : tie.InvT-loop
-Inv-loop arcs faces held sources₀ left₀ i₀ sources left i = (i ≤ length faces) × Going (bare arcs faces) left i
+Inv-loop arcs faces counters held sources₀ left₀ rising₀ last₀ i₀ sources left rising last i = (i ≤ length faces) × (Going (bare arcs faces) left i × (Passed (λ j. faceTest (getD counters 2 0) (getD faces j [])) i × Risen faces i rising last))
 
 abbrev μ-loop : tie.MeasureT-loop
-μ-loop arcs faces held sources₀ left₀ i₀ sources left i = length faces - i
+μ-loop arcs faces counters held sources₀ left₀ rising₀ last₀ i₀ sources left rising last i = length faces - i
 
 loop-holds : tie.Need-loop-holds Inv-loop μ-loop
-loop-holds c = (search needs, going-start (bare (c .args .arcs .now) (c .args .faces .now)) (c .args .held) (c .pre))
+loop-holds c =
+    let a = c .args in
+    (search needs, (going-start (bare (a .arcs .now) (a .faces .now)) (a .held) (c .pre), (none-yet (λ j. faceTest (getD (a .counters .now) 2 0) (getD (a .faces .now) j [])), risen-none (a .faces .now))))
 
-mul-if1 : tie.Need-mul-if1 Inv-loop μ-loop
-mul-if1 c = search needs
+element-copy-out-face-row : tie.Need-element-copy-out-face-row Inv-loop μ-loop
+element-copy-out-face-row c = search needs
 
-index-1-if1 : tie.Need-index-1-if1 Inv-loop μ-loop
-index-1-if1 c = search needs
+mul-face-row : tie.Need-mul-face-row Inv-loop μ-loop
+mul-face-row c = search needs
 
-index-2-if1 : tie.Need-index-2-if1 Inv-loop μ-loop
-index-2-if1 c = search needs
+shared-slice-copy-out-face-row : tie.Need-shared-slice-copy-out-face-row Inv-loop μ-loop
+shared-slice-copy-out-face-row c = search needs
+
+face-row-requires : tie.Need-face-row-requires Inv-loop μ-loop
+face-row-requires c κs = search needs
+
+returns : tie.Need-returns Inv-loop μ-loop
+returns c =
+    let l = c .before .before .before .before .before in
+    let a = l .before .args in
+    (λ v p e. rw (faces-rows (mesh v p (a .arcs .now) e (a .faces .now) (a .counters .now)) ∙ sym (one-failed (λ j. faceTest (getD (a .counters .now) 2 0) (getD (a .faces .now) j [])) (length (a .faces .now)) (l .loop .i) (omega arith) (sym (c .before .face-row .ensures) ∙ not-true _ (c .if1 .taken)))), λ e. absurd (true-T e))
+
+mul-still-rising : tie.Need-mul-still-rising Inv-loop μ-loop
+mul-still-rising c = search needs
+
+index-1-still-rising : tie.Need-index-1-still-rising Inv-loop μ-loop
+index-1-still-rising c = search needs
+
+index-2-still-rising : tie.Need-index-2-still-rising Inv-loop μ-loop
+index-2-still-rising c = search needs
+
+still-rising-requires : tie.Need-still-rising-requires Inv-loop μ-loop
+still-rising-requires c κs = search needs
+
+mul-or-last : tie.Need-mul-or-last Inv-loop μ-loop
+mul-or-last c = search needs
+
+index-1-or-last : tie.Need-index-1-or-last Inv-loop μ-loop
+index-1-or-last c = search needs
+
+index-2-or-last : tie.Need-index-2-or-last Inv-loop μ-loop
+index-2-or-last c = search needs
+
+or-last-requires : tie.Need-or-last-requires Inv-loop μ-loop
+or-last-requires c κs = search needs
+
+mul-if2 : tie.Need-mul-if2 Inv-loop μ-loop
+mul-if2 c = search needs
+
+index-1-if2 : tie.Need-index-1-if2 Inv-loop μ-loop
+index-1-if2 c = search needs
+
+index-2-if2 : tie.Need-index-2-if2 Inv-loop μ-loop
+index-2-if2 c = search needs
 
 mul-linked-length : tie.Need-mul-linked-length Inv-loop μ-loop
 mul-linked-length c = search needs
@@ -43,21 +95,21 @@ add-linked-length c = search needs
 linked-length-requires : tie.Need-linked-length-requires Inv-loop μ-loop
 linked-length-requires c κs = search needs
 
-returns : tie.Need-returns Inv-loop μ-loop
-returns c =
-    let l = c .before .before .before .before .before .before .before in
-    let a = l .before .args in
-    let m = bare (a .arcs .now) (a .faces .now) in
-    let g = l .loop .inv .1 in
-    λ v p e k. length-fails m (l .loop .left) (l .loop .i) g (c .before .linked-length .result) (c .before .before .before .before .if1 .taken) (c .before .linked-length .ensures m refl (cell-row (a .faces .now) (l .loop .i) 1)) (c .if2 .taken) ∙ (bare-full v p (a .arcs .now) e (a .faces .now) k)
-
 returns-2 : tie.Need-returns-2 Inv-loop μ-loop
 returns-2 c =
-    let l = c .before .before .before .before .before .before .before .before in
+    let l = c .before .before .before .before .before .before .before .before .before .before .before .before .before .before .before in
     let a = l .before .args in
     let m = bare (a .arcs .now) (a .faces .now) in
-    let g = l .loop .inv .1 in
-    λ v p e k. sum-fails m (l .loop .left) (l .loop .i) g (c .before .before .linked-length .result) (c .before .before .before .before .before .if1 .taken) (c .before .before .linked-length .ensures m refl (cell-row (a .faces .now) (l .loop .i) 1)) (c .before .if2 .left) (omega arith) (omega arith) ∙ (bare-full v p (a .arcs .now) e (a .faces .now) k)
+    let g = l .loop .inv .1 .0 in
+    (λ v p e. no-second (facesSound (mesh v p (a .arcs .now) e (a .faces .now) (a .counters .now))) _ (length-fails m (l .loop .left) (l .loop .i) g (c .before .linked-length .result) (c .before .before .before .before .if2 .taken) (c .before .linked-length .ensures m refl (cell-row (a .faces .now) (l .loop .i) 1)) (c .if3 .taken) ∙ bare-full v p (a .arcs .now) e (a .faces .now) (a .counters .now)), λ e. absurd (true-T e))
+
+returns-3 : tie.Need-returns-3 Inv-loop μ-loop
+returns-3 c =
+    let l = c .before .before .before .before .before .before .before .before .before .before .before .before .before .before .before .before in
+    let a = l .before .args in
+    let m = bare (a .arcs .now) (a .faces .now) in
+    let g = l .loop .inv .1 .0 in
+    (λ v p e. no-second (facesSound (mesh v p (a .arcs .now) e (a .faces .now) (a .counters .now))) _ (sum-fails m (l .loop .left) (l .loop .i) g (c .before .before .linked-length .result) (c .before .before .before .before .before .if2 .taken) (c .before .before .linked-length .ensures m refl (cell-row (a .faces .now) (l .loop .i) 1)) (c .before .if3 .left) (omega arith) (omega arith) ∙ bare-full v p (a .arcs .now) e (a .faces .now) (a .counters .now)), λ e. absurd (true-T e))
 
 add-i : tie.Need-add-i Inv-loop μ-loop
 add-i c = search needs
@@ -67,22 +119,28 @@ loop-less c = search needs
 
 loop-again : tie.Need-loop-again Inv-loop μ-loop
 loop-again c =
-    let l = c .before .before .before in
+    let l = c .before .before .before .before .before .before .before .before .before .before .before in
     let a = l .before .args in
     let m = bare (a .arcs .now) (a .faces .now) in
-    let g = l .loop .inv .1 in
+    let g = l .loop .inv .1 .0 in
+    let f = c .before .before .before .before .before .before in
+    let s = c .before .before .before .before .still-rising in
+    let o = c .before .before .or-last in
+    let row = one-more (λ j. faceTest (getD (a .counters .now) 2 0) (getD (a .faces .now) j [])) (l .loop .i) (l .loop .inv .1 .1 .0) (sym (f .before .face-row .ensures) ∙ not-false _ (f .if1 .left)) in
+    let risen = risen-more (a .faces .now) (l .loop .i) (omega arith) (l .loop .rising) (l .loop .last) (l .loop .inv .1 .1 .1) (s .result) (o .result) (s .ensures) (o .ensures) in
     ⊎-elim
-    (λ w. (search needs, going-used m (l .loop .left) (l .loop .i) g (w .3 .result) (w .0 .taken) (w .3 .ensures m refl (cell-row (a .faces .now) (l .loop .i) 1)) (w .4 .left) (c .if1 .left) (omega arith) (omega arith)))
-    (λ w. (search needs, going-unused m (l .loop .left) (l .loop .i) g (c .if1 .left) (omega arith) (w .0 .left)))
-    (c .if1 .came)
+    (λ w. (search needs, (going-used m (l .loop .left) (l .loop .i) g (w .3 .result) (w .0 .taken) (w .3 .ensures m refl (cell-row (a .faces .now) (l .loop .i) 1)) (w .4 .left) (c .if2 .left) (omega arith) (omega arith), (row, risen))))
+    (λ w. (search needs, (going-unused m (l .loop .left) (l .loop .i) g (c .if2 .left) (omega arith) (w .0 .left), (row, risen))))
+    (c .if2 .came)
 
-returns-3 : tie.Need-returns-3 Inv-loop μ-loop
-returns-3 c =
+returns-4 : tie.Need-returns-4 Inv-loop μ-loop
+returns-4 c =
     let l = c .before in
     let a = l .before .args in
-    let m = bare (a .arcs .now) (a .faces .now) in
-    let g = l .loop .inv .1 in
-    λ v p e k. going-end m (l .loop .left) (l .loop .i) g (omega arith) (omega arith) ∙ (bare-full v p (a .arcs .now) e (a .faces .now) k)
+    let m = bare (a .arcs .now) (a .faces .now) in (
+      λ v p e. rw (faces-rows (mesh v p (a .arcs .now) e (a .faces .now) (a .counters .now)) ∙ sym (all-passed (λ j. faceTest (getD (a .counters .now) 2 0) (getD (a .faces .now) j [])) (length (a .faces .now)) (l .loop .i) (omega arith) (omega arith) (l .loop .inv .1 .1 .0))) (going-end m (l .loop .left) (l .loop .i) (l .loop .inv .1 .0) (omega arith) (omega arith) ∙ bare-full v p (a .arcs .now) e (a .faces .now) (a .counters .now)),
+      risen-all (a .faces .now) (l .loop .i) (omega arith) (omega arith) (l .loop .rising) (l .loop .last) (l .loop .inv .1 .1 .1),
+    )
 
 pub rings-sound-spec : {M : Type 1} → statement M
 rings-sound-spec =
@@ -91,17 +149,30 @@ rings-sound-spec =
     Inv-loop
     μ-loop
     loop-holds
-    mul-if1
-    index-1-if1
-    index-2-if1
+    element-copy-out-face-row
+    mul-face-row
+    shared-slice-copy-out-face-row
+    face-row-requires
+    returns
+    mul-still-rising
+    index-1-still-rising
+    index-2-still-rising
+    still-rising-requires
+    mul-or-last
+    index-1-or-last
+    index-2-or-last
+    or-last-requires
+    mul-if2
+    index-1-if2
+    index-2-if2
     mul-linked-length
     index-1-linked-length
     index-2-linked-length
     add-linked-length
     linked-length-requires
-    returns
     returns-2
+    returns-3
     add-i
     loop-less
     loop-again
-    returns-3)
+    returns-4)

@@ -5,12 +5,11 @@ use Rattle.rules.specs.Mesh.{mesh}
 use Rattle.rules.specs.Sound.{keysDiffer}
 use Rattle.proved.proofs.Rows.{true-T}
 use Rattle.proved.proofs.SoundParts.{sizes}
-use borrow.Author.Needs.{needs}
 use Rattle.sound.proofs.keys.keys_differ.Statement.{statement}
 use Rattle.sound.proofs.keys.keys_differ.Tie as tie
 
 differ2-requires : tie.Need-differ2-requires
-differ2-requires c κs = search needs
+differ2-requires c κs = c .before .pre .0
 
 returns : tie.Need-returns
 unfolding keysDiffer
@@ -20,7 +19,7 @@ returns c =
     rw (sym (c .before .differ2 .ensures (omega arith)) ∙ not-true _ (c .if1 .taken))
 
 differ3-requires : tie.Need-differ3-requires
-differ3-requires c κs = search needs
+differ3-requires c κs = c .before .before .before .before .pre .1 .0
 
 returns-2 : tie.Need-returns-2
 unfolding keysDiffer
@@ -30,7 +29,7 @@ returns-2 c =
     rw (sym (c .before .before .before .before .differ2 .ensures (omega arith)) ∙ not-false _ (c .before .before .before .if1 .left), sym (c .before .differ3 .ensures (omega arith)) ∙ not-true _ (c .if2 .taken))
 
 differ3-requires-2 : tie.Need-differ3-requires-2
-differ3-requires-2 c κs = search needs
+differ3-requires-2 c κs = c .before .before .before .before .before .before .before .pre .1 .1
 
 returns-3 : tie.Need-returns-3
 unfolding keysDiffer

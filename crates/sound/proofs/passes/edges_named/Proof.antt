@@ -9,8 +9,9 @@ use Rattle.rules.specs.Mesh.{mesh}
 use Rattle.tables.proofs.Lists.{upto}
 use Rattle.tables.proofs.Scans.{Counted, counted-all}
 use Rattle.names.proofs.Loops.{Passed, none-yet, one-more, all-passed, one-failed}
+use Rattle.proved.proofs.Rows.{true-T}
 use Rattle.sound.proofs.Rows.{edges-rows, counted-on, one-up}
-use Rattle.sound.proofs.Named.{name-more, name-all}
+use Rattle.sound.proofs.Named.{name-more, name-all, Risen, risen-none, risen-more, risen-all}
 use Rattle.sound.specs.Names.{edgeName}
 use Rattle.sound.specs.Tests.{edgeTest}
 use borrow.Author.Needs.{needs}
@@ -18,13 +19,13 @@ use Rattle.sound.proofs.passes.edges_named.Statement.{statement}
 use Rattle.sound.proofs.passes.edges_named.Tie as tie
 
 abbrev Inv-loop : tie.InvT-loop
-Inv-loop names₀ vertices arcs edges counters there₀ i₀ names there i = (length names ≡ length names₀) × ((i ≤ length edges) × ((there ≤ i) × (Passed (λ j. edgeTest vertices arcs (getD counters 1 0) (getD edges j []) (j + 1)) i × (Counted used edges [] there i × (names ≡ upto (map (edgeName arcs) edges) i names₀)))))
+Inv-loop names₀ vertices arcs edges counters there₀ rising₀ last₀ i₀ names there rising last i = (length names ≡ length names₀) × ((i ≤ length edges) × ((there ≤ i) × (Passed (λ j. edgeTest vertices arcs (getD counters 1 0) (getD edges j []) (j + 1)) i × (Counted used edges [] there i × ((names ≡ upto (map (edgeName arcs) edges) i names₀) × Risen edges i rising last)))))
 
 abbrev μ-loop : tie.MeasureT-loop
-μ-loop names₀ vertices arcs edges counters there₀ i₀ names there i = length edges - i
+μ-loop names₀ vertices arcs edges counters there₀ rising₀ last₀ i₀ names there rising last i = length edges - i
 
 loop-holds : tie.Need-loop-holds Inv-loop μ-loop
-loop-holds c = (search needs, (search needs, (search needs, (none-yet (λ j. edgeTest (c .before .args .vertices .now) (c .before .args .arcs .now) (getD (c .before .args .counters .now) 1 0) (getD (c .before .args .edges .now) j []) (j + 1)), (search needs, search needs)))))
+loop-holds c = (search needs, (search needs, (search needs, (none-yet (λ j. edgeTest (c .before .args .vertices .now) (c .before .args .arcs .now) (getD (c .before .args .counters .now) 1 0) (getD (c .before .args .edges .now) j []) (j + 1)), (search needs, (search needs, risen-none (c .before .args .edges .now)))))))
 
 element-copy-out-edge-row : tie.Need-element-copy-out-edge-row Inv-loop μ-loop
 element-copy-out-edge-row c = search needs
@@ -48,7 +49,7 @@ returns : tie.Need-returns Inv-loop μ-loop
 returns c =
     let l = c .before .before .before .before .before in
     let a = l .before .before .args in
-    (λ p f. rw (edges-rows (mesh (a .vertices .now) p (a .arcs .now) (a .edges .now) f (a .counters .now)) ∙ sym (one-failed (λ j. edgeTest (a .vertices .now) (a .arcs .now) (getD (a .counters .now) 1 0) (getD (a .edges .now) j []) (j + 1)) (length (a .edges .now)) (l .loop .i) (omega arith) (sym (c .before .edge-row .ensures) ∙ not-true _ (c .if1 .taken)))), λ n. absurd (n refl))
+    (λ p f. rw (edges-rows (mesh (a .vertices .now) p (a .arcs .now) (a .edges .now) f (a .counters .now)) ∙ sym (one-failed (λ j. edgeTest (a .vertices .now) (a .arcs .now) (getD (a .counters .now) 1 0) (getD (a .edges .now) j []) (j + 1)) (length (a .edges .now)) (l .loop .i) (omega arith) (sym (c .before .edge-row .ensures) ∙ not-true _ (c .if1 .taken)))), λ n. absurd (n refl), λ e. absurd (true-T e))
 
 mul-edge-name : tie.Need-mul-edge-name Inv-loop μ-loop
 mul-edge-name c = search needs
@@ -77,6 +78,30 @@ index-2-plus c = search needs
 plus-requires : tie.Need-plus-requires Inv-loop μ-loop
 plus-requires c κs = search needs
 
+mul-still-rising : tie.Need-mul-still-rising Inv-loop μ-loop
+mul-still-rising c = search needs
+
+index-1-still-rising : tie.Need-index-1-still-rising Inv-loop μ-loop
+index-1-still-rising c = search needs
+
+index-2-still-rising : tie.Need-index-2-still-rising Inv-loop μ-loop
+index-2-still-rising c = search needs
+
+still-rising-requires : tie.Need-still-rising-requires Inv-loop μ-loop
+still-rising-requires c κs = search needs
+
+mul-or-last : tie.Need-mul-or-last Inv-loop μ-loop
+mul-or-last c = search needs
+
+index-1-or-last : tie.Need-index-1-or-last Inv-loop μ-loop
+index-1-or-last c = search needs
+
+index-2-or-last : tie.Need-index-2-or-last Inv-loop μ-loop
+index-2-or-last c = search needs
+
+or-last-requires : tie.Need-or-last-requires Inv-loop μ-loop
+or-last-requires c κs = search needs
+
 add-i : tie.Need-add-i Inv-loop μ-loop
 add-i c = search needs
 
@@ -85,29 +110,34 @@ loop-less c = search needs
 
 loop-again : tie.Need-loop-again Inv-loop μ-loop
 loop-again c =
-    let l = c .before .before .before .before .before .before .before .before .before in
+    let l = c .before .before .before .before .before .before .before .before .before .before .before .before .before in
     let a = l .before .before .args in
-    let h = c .before .before .before .before .before .before .before .before .loop-test .taken in
+    let h = c .before .before .before .before .before .before .before .before .before .before .before .before .loop-test .taken in
+    let s = c .before .before .still-rising in
+    let p = c .before .before .before .before in
     let r = l .before .before .pre in
     let i = l .loop .inv in (
       simp length-set (i .0),
       (
         search needs,
         (
-          one-up (used (getD (a .edges .now) (l .loop .i) [])) (l .loop .there) (l .loop .i) (c .plus .result) (i .1 .1 .0) (c .plus .ensures),
+          one-up (used (getD (a .edges .now) (l .loop .i) [])) (l .loop .there) (l .loop .i) (p .plus .result) (i .1 .1 .0) (p .plus .ensures),
           (
-            one-more (λ j. edgeTest (a .vertices .now) (a .arcs .now) (getD (a .counters .now) 1 0) (getD (a .edges .now) j []) (j + 1)) (l .loop .i) (i .1 .1 .1 .0) (sym (c .before .before .before .before .before .edge-row .ensures) ∙ not-false _ (c .before .before .before .before .if1 .left)),
+            one-more (λ j. edgeTest (a .vertices .now) (a .arcs .now) (getD (a .counters .now) 1 0) (getD (a .edges .now) j []) (j + 1)) (l .loop .i) (i .1 .1 .1 .0) (sym (p .before .before .before .before .before .edge-row .ensures) ∙ not-false _ (p .before .before .before .before .if1 .left)),
             (
-              counted-on used (a .edges .now) (l .loop .there) (l .loop .i) h (i .1 .1 .1 .1 .0) (c .plus .result) (c .plus .ensures),
-              rw (i .1 .1 .1 .1 .1, c .before .before .edge-name .ensures) (name-more (edgeName (a .arcs .now)) (a .edges .now) (a .names .now) (l .loop .i) h (omega (arith, h, r .1))),
+              counted-on used (a .edges .now) (l .loop .there) (l .loop .i) h (i .1 .1 .1 .1 .0) (p .plus .result) (p .plus .ensures),
+              (
+                rw (i .1 .1 .1 .1 .1 .0, p .before .before .edge-name .ensures) (name-more (edgeName (a .arcs .now)) (a .edges .now) (a .names .now) (l .loop .i) h (omega (arith, h, r .1))),
+                risen-more (a .edges .now) (l .loop .i) h (l .loop .rising) (l .loop .last) (i .1 .1 .1 .1 .1 .1) (s .result) (c .or-last .result) (s .ensures) (c .or-last .ensures),
+              ),
             ),
           ),
         ),
       ),
     )
 
-add-result : tie.Need-add-result Inv-loop μ-loop
-add-result c = search needs
+add-there : tie.Need-add-there Inv-loop μ-loop
+add-there c = search needs
 
 same-length-2 : tie.Need-same-length-2 Inv-loop μ-loop
 same-length-2 c = search needs
@@ -118,7 +148,8 @@ returns-2 c =
     let a = l .before .before .args in
     let n = counted-all used (a .edges .now) [] (l .loop .there) (l .loop .i) (c .loop-test .left) (l .loop .inv .1 .1 .1 .1 .0) in (
       λ p f. rw (edges-rows (mesh (a .vertices .now) p (a .arcs .now) (a .edges .now) f (a .counters .now)) ∙ sym (all-passed (λ j. edgeTest (a .vertices .now) (a .arcs .now) (getD (a .counters .now) 1 0) (getD (a .edges .now) j []) (j + 1)) (length (a .edges .now)) (l .loop .i) (omega arith) (omega arith) (l .loop .inv .1 .1 .1 .0))) (omega arith),
-      λ s. rw (l .loop .inv .1 .1 .1 .1 .1) (name-all (edgeName (a .arcs .now)) (a .edges .now) (a .names .now) (l .loop .i) (omega arith)),
+      λ s. rw (l .loop .inv .1 .1 .1 .1 .1 .0) (name-all (edgeName (a .arcs .now)) (a .edges .now) (a .names .now) (l .loop .i) (omega arith)),
+      risen-all (a .edges .now) (l .loop .i) (omega arith) (omega arith) (l .loop .rising) (l .loop .last) (l .loop .inv .1 .1 .1 .1 .1 .1),
     )
 
 pub edges-named-spec : {M : Type 1} → statement M
@@ -144,9 +175,17 @@ edges-named-spec =
     index-1-plus
     index-2-plus
     plus-requires
+    mul-still-rising
+    index-1-still-rising
+    index-2-still-rising
+    still-rising-requires
+    mul-or-last
+    index-1-or-last
+    index-2-or-last
+    or-last-requires
     add-i
     loop-less
     loop-again
-    add-result
+    add-there
     same-length-2
     returns-2)

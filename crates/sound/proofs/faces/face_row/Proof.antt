@@ -2,8 +2,8 @@ use mathlib.Core.Path.{sym, _∙_}
 use borrow.Author.Tests.{not-true, not-false}
 use Rattle.sound.specs.Tests.{faceTest}
 use borrow.Author.Needs.{needs}
-use Rattle.sound.proofs.passes.face_row.Statement.{statement}
-use Rattle.sound.proofs.passes.face_row.Tie as tie
+use Rattle.sound.proofs.faces.face_row.Statement.{statement}
+use Rattle.sound.proofs.faces.face_row.Tie as tie
 
 blank3-requires : tie.Need-blank3-requires
 blank3-requires c κs = search needs
