@@ -26,8 +26,8 @@ ghost use Rattle.since.specs.Whole.{joinsRow, arcEnds};
 ghost use Rattle.since.specs.Since.{changedFace, arcKept, arcMade, arcsStill, heldNow, heldBefore};
 ghost use Rattle.since.specs.Changes.{Listed};
 
-// Whether every row passes; and in rows that are not as they were, how many hold a face now, and how many held one. So many of those rows are
-// listed, or there are too many.
+// Whether every row passes; and in rows that are not as they were, how many hold a face now, and how many held one. `listed` is the number of
+// those rows that stand in the list, all of them, or TOO_MANY.
 pub struct Held {
     pub passed: bool,
     pub now: usize,

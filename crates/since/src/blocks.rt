@@ -37,7 +37,7 @@ fn same_block6(before: &[ArcRow], after: &[ArcRow], i: usize) -> bool
     different == 0
 }
 
-// The first row after `from` of a block that is not as it was, or of which there are no eight rows.
+// Goes on from a row by whole blocks that are as they were: the row where it stops.
 pub fn skip3(before: &[EdgeRow], after: &[EdgeRow], from: usize) -> usize
     requires { ⌜ (length (now before) ≡ length (now after)) × (from ≤ length (now after)) ⌝ }
     ensures { λ r. ⌜ (from ≤ r) × (r ≤ length (now (after .entry))) × SameRows (now (before .entry)) (now (after .entry)) from r ⌝ }
