@@ -1,4 +1,4 @@
-/* Times the calls by themselves, at the largest tables, nearly full: a cloth of 62 x 62 panels, and four corners apart from it.
+/* Times the calls by themselves, at the largest tables, nearly full: a cloth of 62 x 62 panels, four corners and two panels apart from it.
  * Beside plexus (main.rs) each call finds its tables driven out of the near caches by plexus; here nothing runs between two calls but
  * putting the mesh back. Prints a table of lower quartiles of RUNS runs, in microseconds, and beside reading every cell once. */
 #include "ullarvesp.h"
@@ -92,17 +92,26 @@ static uint32_t corner(double x, double y, double z) {
     return ul_vertex_insert(UL_LENT(mesh), x, y, z).key;
 }
 
+static uint32_t panel(const uint32_t *corners) {
+    ul_reply reply = ul_face_insert(UL_LENT(mesh), 7, corners, 4);
+    if (reply.number != UL_DONE) exit(1);
+    return reply.key;
+}
+
 int main(void) {
     mesh.tables = set(0);
     mesh.one = set(1);
     mesh.two = set(2);
     for (uint32_t i = 0; i < WIDE * WIDE; i++) corner(i % WIDE, i / WIDE, 0);
-    uint32_t apart[4] = {corner(100, 0, 0), corner(101, 0, 0), corner(101, 1, 0), corner(100, 1, 0)};
+    uint32_t apart[3][4];
+    for (uint32_t i = 0; i < 3; i++)
+        for (uint32_t j = 0; j < 4; j++) apart[i][j] = corner(100 + (j == 1 || j == 2), j / 2, i);
     for (uint32_t y = 0; y + 1 < WIDE; y++)
         for (uint32_t x = 0; x + 1 < WIDE; x++) {
-            uint32_t a = y * WIDE + x, panel[4] = {a, a + 1, a + 1 + WIDE, a + WIDE};
-            if (ul_face_insert(UL_LENT(mesh), 7, panel, 4).number != UL_DONE) return 1;
+            uint32_t a = y * WIDE + x, corners[4] = {a, a + 1, a + 1 + WIDE, a + WIDE};
+            panel(corners);
         }
+    uint32_t below = panel(apart[1]), above = panel(apart[2]);
     copy(3, 0);
     memcpy(counters, mesh.counters, sizeof counters);
     for (int i = 0; i < RUNS; i++) {
@@ -118,12 +127,15 @@ int main(void) {
            counters[2], read_time);
     printf("| call | answer | microseconds | / read once |\n|---|---|---|---|\n");
     TIMED("vertex insert", ul_vertex_insert(UL_LENT(mesh), 1, 2, 3));
-    TIMED("face insert", ul_face_insert(UL_LENT(mesh), 7, apart, 4));
+    TIMED("face insert", ul_face_insert(UL_LENT(mesh), 7, apart[0], 4));
     TIMED("face insert, taken", ul_face_insert(UL_LENT(mesh), 7, taken, 4));
     TIMED("face remove", ul_face_remove(UL_LENT(mesh), face));
     TIMED("face split", ul_face_split(UL_LENT(mesh), face, first, across));
     TIMED("face poke", ul_face_poke(UL_LENT(mesh), face, 1, 2, 3));
+    TIMED("face bridge", ul_face_bridge(UL_LENT(mesh), below, above));
     TIMED("face extrude, shift", ul_face_extrude_shift(UL_LENT(mesh), face, 1, 2, 3));
+    TIMED("arc bridge", ul_arc_bridge(UL_LENT(mesh), apart[1][1], apart[1][0], apart[2][1], apart[2][0]));
+    TIMED("arc extrude, shift", ul_arc_extrude_shift(UL_LENT(mesh), apart[1][1], apart[1][0], 1, 2, 3));
     TIMED("arity", ul_face_arity(UL_SET(mesh.tables), mesh.counters, face));
     TIMED("soundness check", ul_check_sound(UL_SET(mesh.tables), mesh.counters));
     return 0;
