@@ -12,8 +12,9 @@ use Rattle.rules.specs.Table.{Table, someBelow, firstRow, linkInto}
 use Rattle.rules.specs.Mesh.{joins, arcBetween, listOf}
 use Rattle.rules.proofs.Scan.{joins-no-source}
 use Rattle.tables.proofs.Scans.{Missed, into-none}
-use Rattle.pairs.specs.Pairs.{marksOf, runsAt, NoneLed}
+use Rattle.pairs.specs.Pairs.{marksOf, NoMarks, runsAt, NoneLed}
 use Rattle.pairs.proofs.Below.{some-none}
+use Rattle.pairs.proofs.Blocks.{over-run}
 use Rattle.pairs.proofs.Pass.{unmarked}
 
 -- none leads from none either
@@ -35,6 +36,9 @@ module _ (arcs : Table) (from to : List ℕ) (n : ℕ) where
   unled-skip i seen s few em es h u j q =
       let absent : getD (marksOf (take n from)) (getD (getD arcs i []) 0 0 % 1024) false ≡ false = rw (← em, ← es) h in
       below-more _ _ (u j q) (joins-no-source (getD from j 0) (getD to j 0) (getD arcs i []) (λ e. unmarked (take n from) (getD (getD arcs i []) 0 0) absent j (omega (arith, length-take-le n from few)) (e ∙ sym (getD-take n from j 0 q))))
+
+  pub unled-run : (i r : ℕ) (seen : List Bool) → n ≤ length from → seen ≡ marksOf (listOf (record { at = from; len = n })) → i ≤ r → NoMarks arcs seen i r → Unled i → Unled r
+  unled-run i r seen few em l h = over-run Unled i r l (λ j a b. unled-skip j seen (getD (getD arcs j []) 0 0) few em refl (h j a b))
 
   -- nor does one that is compared and is not listed
   pub unled-next : (i : ℕ) → someBelow (runsAt from to (getD (getD arcs i []) 0 0) (getD (getD arcs i []) 1 0)) n ≡ false → Unled i → Unled (i + 1)

@@ -1,4 +1,5 @@
 pub mod Below
+pub mod Blocks
 pub mod Steps
 pub mod Listed
 pub mod Pass

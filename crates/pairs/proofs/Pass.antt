@@ -16,7 +16,8 @@ use Rattle.rules.specs.Mesh.{joins, arcBetween, placesOf, linksOf}
 use Rattle.rules.proofs.Scan.{joins-no-source}
 use Rattle.rules.proofs.Places.{place-is, places-length}
 use Rattle.tables.proofs.Scans.{Missed, into-found, into-none, into-large}
-use Rattle.pairs.specs.Pairs.{pairArc, arcsOf, markCount, marksOf, isPair, noteAt, noted}
+use Rattle.pairs.specs.Pairs.{pairArc, arcsOf, markCount, marksOf, NoMarks, isPair, noteAt, noted}
+use Rattle.pairs.proofs.Blocks.{over-run}
 use Rattle.pairs.proofs.Steps.{markAt}
 use Rattle.pairs.proofs.Listed.{arcs-length, arcs-at, arcs-past}
 
@@ -227,6 +228,9 @@ module _ (arcs : Table) (per : List ℕ) where
   pass-skip k at seen s em es h p =
       let absent : getD (marksOf per) (getD (getD arcs k []) 0 0 % 1024) false ≡ false = rw (← em, ← es) h in
       record { size = p .size; told = λ i q. told-skip arcs (from per i) (to per i) k (getD at i 0) (λ na. joins-no-source (from per i) (to per i) (getD arcs k []) (unmarked per (getD (getD arcs k []) 0 0) absent i q)) (p .told i q); clear = p .clear }
+
+  pub pass-run : (k r : ℕ) (at : List ℕ) (seen : List Bool) → seen ≡ marksOf per → k ≤ r → NoMarks arcs seen k r → Passed k at → Passed r at
+  pass-run k r at seen em l h = over-run (λ (j : ℕ). Passed j at) k r l (λ j a b. pass-skip j at seen (getD (getD arcs j []) 0 0) em refl (h j a b))
 
   pub pass-note : (k : ℕ) (at at₁ : List ℕ) → length per ≤ 64 → length arcs ≤ rowLimit → k < length arcs → at₁ ≡ noted per (getD (getD arcs k []) 0 0) (getD (getD arcs k []) 1 0) (k + 1) at → Passed k at → Passed (k + 1) at₁
   unfolding isPair

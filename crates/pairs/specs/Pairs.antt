@@ -1,5 +1,5 @@
 -- The arcs of a perimeter's pairs, and the steps by which one pass over the arc table finds them.
-use Prim.Native.Nat.{ℕ, _+_, _%_, _<_}
+use Prim.Native.Nat.{ℕ, _+_, _%_, _≤_, _<_}
 use mathlib.Core.Path.{_≡_}
 use mathlib.Core.Bool.{Bool, true, false, _&&_, _||_, cond}
 use mathlib.Core.List.{List, [], _∷_, _++_}
@@ -27,6 +27,10 @@ markCount = 1024
 
 unfoldable pub marksOf : List ℕ → List Bool
 marksOf l = upTo (λ i seen. set seen (getD l i 0 % markCount) true) (length l) (replicate markCount false)
+
+-- the rows from i up to r have no mark: each is told by its source
+abbrev pub NoMarks : Table → List Bool → ℕ → ℕ → Type 0
+NoMarks arcs seen i r = (j : ℕ) → i ≤ j → j < r → getD seen (getD (getD arcs j []) 0 0 % markCount) false ≡ false
 
 -- pair i runs from s to d
 unfoldable pub isPair : List ℕ → ℕ → ℕ → ℕ → Bool

@@ -2,6 +2,7 @@
 // As in the pass for a perimeter's pairs, only a row whose source has a mark is compared with the pairs.
 
 use crate::MARKS;
+use crate::marked;
 use rules::ArcRow;
 use rules::Links;
 use rules::RING;
@@ -45,14 +46,14 @@ pub fn none_led(arcs: &[ArcRow], from: &[u32; RING], to: &[u32; RING], n: usize)
     }
     known_places(*from);
     let seen = crate::marks(Links { at: *from, len: n });
-    let mut i: usize = 0;
+    let mut i = marked::skip(arcs, &seen, 0);
     while i < arcs.len() {
         if seen[rows::wide(arcs[i][0]) % MARKS] {
             if is_listed(from, to, n, arcs[i][0], arcs[i][1]) {
                 return false;
             }
         }
-        i += 1;
+        i = marked::skip(arcs, &seen, i + 1);
     }
     true
 }

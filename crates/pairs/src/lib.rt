@@ -3,6 +3,7 @@
 // And whether two pairs join the same vertices: an edge that is made for one pair is then another pair's too.
 
 pub mod joined; // joined.rt: that no arc leads along any of a list of pairs
+mod marked; // marked.rt: blocks of rows without a mark
 
 use rules::ArcRow;
 use rules::Links;
@@ -88,12 +89,12 @@ pub fn perimeter_arcs(arcs: &[ArcRow], per: Links) -> Links
         return Links { at, len: n };
     }
     let seen = marks(per);
-    let mut i: usize = 0;
+    let mut i = marked::skip(arcs, &seen, 0);
     while i < arcs.len() {
         if seen[rows::wide(arcs[i][0]) % MARKS] {
             note(&mut at, per, arcs[i][0], arcs[i][1], i as u32 + 1);
         }
-        i += 1;
+        i = marked::skip(arcs, &seen, i + 1);
     }
     Links { at, len: n }
 }

@@ -1,10 +1,10 @@
 -- `pairs::perimeter_arcs` meets its contract. The loop keeps what the rows passed by have told of each pair; laws of Pass. Assumes nothing.
-use Prim.Native.Nat.{_-_, _≤_}
+use Prim.Native.Nat.{_+_, _-_, _≤_}
 use mathlib.Core.Path.{_∙_}
 use mathlib.Core.Logic.{⊎-elim}
-use lib.ListN.{length}
+use lib.ListN.{length, replicate}
 use Rattle.rules.specs.Mesh.{listOf}
-use Rattle.pairs.proofs.Pass.{Passed, pass-start, pass-skip, pass-note, pass-end, pass-large}
+use Rattle.pairs.proofs.Pass.{Passed, pass-start, pass-skip, pass-run, pass-note, pass-end, pass-large}
 use borrow.Author.Needs.{needs}
 use Rattle.pairs.proofs.perimeter_arcs.Statement.{statement}
 use Rattle.pairs.proofs.perimeter_arcs.Tie as tie
@@ -29,8 +29,16 @@ returns c =
 marks-requires : tie.Need-marks-requires Inv-loop μ-loop
 marks-requires c κs = search needs
 
+skip-requires : tie.Need-skip-requires Inv-loop μ-loop
+skip-requires c κs = search needs
+
 loop-holds : tie.Need-loop-holds Inv-loop μ-loop
-loop-holds c = (search needs, pass-start _ _)
+loop-holds c =
+    let a = c .before .before .before .before .before .before .args in
+    let arcs = a .arcs .now in
+    let per = listOf (a .per) in
+    let m = c .before .before .marks in
+    (search needs, pass-run arcs per 0 (c .skip .result) (replicate 64 0) (m .result) (m .ensures) (c .skip .ensures .0) (c .skip .ensures .2) (pass-start arcs per))
 
 mul-wide : tie.Need-mul-wide Inv-loop μ-loop
 mul-wide c = search needs
@@ -74,28 +82,36 @@ add-note c = search needs
 note-requires : tie.Need-note-requires Inv-loop μ-loop
 note-requires c κs = search needs
 
-add-i : tie.Need-add-i Inv-loop μ-loop
-add-i c = search needs
+add-skip : tie.Need-add-skip Inv-loop μ-loop
+add-skip c = search needs
+
+skip-requires-2 : tie.Need-skip-requires-2 Inv-loop μ-loop
+skip-requires-2 c κs = search needs
 
 loop-less : tie.Need-loop-less Inv-loop μ-loop
 loop-less c = search needs
 
 loop-again : tie.Need-loop-again Inv-loop μ-loop
 loop-again c =
-    let l = c .before .before .before .before in
-    let a = l .before .before .before .before .before .args in
+    let j = c .before .before in
+    let l = j .before .before .before .before in
+    let m = l .before .before .before in
+    let a = m .before .before .before .before .args in
     let arcs = a .arcs .now in
-    let per = listOf (a .per) in (
-      search needs,
-      ⊎-elim (λ w. pass-note arcs per (l .loop .i) (l .loop .at) (c .if2 .at) (l .before .before .before .known-few .ensures) (l .before .before .if1 .left) (search needs) (w .5 ∙ w .4 .ensures) (l .loop .inv .1))
-          (λ w. rw (w .1) (pass-skip arcs per (l .loop .i) (l .loop .at) (l .before .marks .result) (c .before .wide .result) (l .before .marks .ensures) (c .before .wide .ensures) (w .0 .left) (l .loop .inv .1))) (c .if2 .came),
-    )
+    let per = listOf (a .per) in
+    let i = l .loop .i in
+    let one : Passed arcs per (i + 1) (j .if2 .at) =
+    ⊎-elim (λ w. pass-note arcs per i (l .loop .at) (j .if2 .at) (m .before .before .known-few .ensures) (m .before .if1 .left) (search needs) (w .5 ∙ w .4 .ensures) (l .loop .inv .1))
+    (λ w. rw (w .1) (pass-skip arcs per i (l .loop .at) (m .marks .result) (j .before .wide .result) (m .marks .ensures) (j .before .wide .ensures) (w .0 .left) (l .loop .inv .1))) (j .if2 .came) in
+    let r = c .skip2 in
+    (r .ensures .1, pass-run arcs per (i + 1) (r .result) (j .if2 .at) (m .marks .result) (m .marks .ensures) (r .ensures .0) (r .ensures .2) one)
 
 returns-2 : tie.Need-returns-2 Inv-loop μ-loop
 returns-2 c =
     let l = c .before in
-    let a = l .before .before .before .before .before .args in
-    pass-end (a .arcs .now) (listOf (a .per)) (l .loop .i) (l .loop .at) (l .before .before .before .before .size .result) (l .before .before .before .before .size .ensures) (l .before .before .before .known-few .ensures) (c .loop-test .left) (l .loop .inv .1)
+    let k = l .before .before .before .before .before in
+    let a = k .before .before .args in
+    pass-end (a .arcs .now) (listOf (a .per)) (l .loop .i) (l .loop .at) (k .before .size .result) (k .before .size .ensures) (k .known-few .ensures) (c .loop-test .left) (l .loop .inv .1)
 
 pub perimeter-arcs-spec : {M : Type 1} → statement M
 perimeter-arcs-spec =
@@ -107,6 +123,7 @@ perimeter-arcs-spec =
     known-few-requires
     returns
     marks-requires
+    skip-requires
     loop-holds
     mul-wide
     index-1-wide
@@ -122,7 +139,8 @@ perimeter-arcs-spec =
     cast-note
     add-note
     note-requires
-    add-i
+    add-skip
+    skip-requires-2
     loop-less
     loop-again
     returns-2)

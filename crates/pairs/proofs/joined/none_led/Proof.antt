@@ -1,11 +1,11 @@
 -- `pairs::joined::none_led` meets its contract. The loop keeps that no row passed by leads along a pair; laws of Led. Assumes nothing.
-use Prim.Native.Nat.{ℕ, _-_, _≤_}
+use Prim.Native.Nat.{ℕ, _+_, _-_, _≤_}
 use native.Mathlib.Omega.{arith}
 use mathlib.Core.Path.{_≡_, ap, sym, _∙_}
 use mathlib.Core.Bool.{Bool, cond}
 use mathlib.Core.Logic.{⊎-elim}
 use lib.ListN.{length}
-use Rattle.pairs.proofs.Led.{Unled, unled-start, unled-skip, unled-next, unled-end}
+use Rattle.pairs.proofs.Led.{Unled, unled-start, unled-skip, unled-run, unled-next, unled-end}
 use borrow.Author.Needs.{needs}
 use Rattle.pairs.proofs.joined.none_led.Statement.{statement}
 use Rattle.pairs.proofs.joined.none_led.Tie as tie
@@ -25,10 +25,18 @@ known-places-requires c κs = search needs
 marks-requires : tie.Need-marks-requires Inv-loop μ-loop
 marks-requires c κs = search needs
 
+skip-requires : tie.Need-skip-requires Inv-loop μ-loop
+skip-requires c κs = search needs
+
 loop-holds : tie.Need-loop-holds Inv-loop μ-loop
 loop-holds c =
-    let a = c .before .before .before .before .before .args in
-    (search needs, unled-start (a .arcs .now) (a .from .now) (a .to .now) (a .n))
+    let m = c .before .before in
+    let k = m .before .before in
+    let a = k .before .before .before .args in
+    let arcs = a .arcs .now in
+    let from = a .from .now in
+    let to = a .to .now in
+    (search needs, unled-run arcs from to (a .n) 0 (c .skip .result) (m .marks .result) (omega (arith, k .known-places .ensures)) (m .marks .ensures) (c .skip .ensures .0) (c .skip .ensures .2) (unled-start arcs from to (a .n)))
 
 mul-wide : tie.Need-mul-wide Inv-loop μ-loop
 mul-wide c = search needs
@@ -69,28 +77,37 @@ is-listed-requires c κs = search needs
 returns-2 : tie.Need-returns-2 Inv-loop μ-loop
 returns-2 c = λ e. let z : _≡_ {A = ℕ} 0 1 = ap (λ (b : Bool). cond b 1 0) e in absurd (omega arith)
 
-add-i : tie.Need-add-i Inv-loop μ-loop
-add-i c = search needs
+add-skip : tie.Need-add-skip Inv-loop μ-loop
+add-skip c = search needs
+
+skip-requires-2 : tie.Need-skip-requires-2 Inv-loop μ-loop
+skip-requires-2 c κs = search needs
 
 loop-less : tie.Need-loop-less Inv-loop μ-loop
 loop-less c = search needs
 
 loop-again : tie.Need-loop-again Inv-loop μ-loop
 loop-again c =
-    let l = c .before .before .before .before in
-    let a = l .before .before .before .before .before .before .args in
+    let j = c .before .before in
+    let l = j .before .before .before .before in
+    let m = l .before .before .before in
+    let k = m .before .before in
+    let a = k .before .before .before .args in
     let arcs = a .arcs .now in
     let from = a .from .now in
-    let to = a .to .now in (
-      search needs,
-      ⊎-elim (λ w. unled-next arcs from to (a .n) (l .loop .i) (sym (w .3 .ensures) ∙ w .4 .left) (l .loop .inv .1))
-          (λ w. unled-skip arcs from to (a .n) (l .loop .i) (l .before .marks .result) (c .before .wide .result) (omega (arith, l .before .before .before .known-places .ensures)) (l .before .marks .ensures) (c .before .wide .ensures) (w .left) (l .loop .inv .1)) (c .if2 .came),
-    )
+    let to = a .to .now in
+    let i = l .loop .i in
+    let few : a .n ≤ length from = omega (arith, k .known-places .ensures) in
+    let one : Unled arcs from to (a .n) (i + 1) =
+    ⊎-elim (λ w. unled-next arcs from to (a .n) i (sym (w .3 .ensures) ∙ w .4 .left) (l .loop .inv .1))
+    (λ w. unled-skip arcs from to (a .n) i (m .marks .result) (j .before .wide .result) few (m .marks .ensures) (j .before .wide .ensures) (w .left) (l .loop .inv .1)) (j .if2 .came) in
+    let r = c .skip2 in
+    (r .ensures .1, unled-run arcs from to (a .n) (i + 1) (r .result) (m .marks .result) few (m .marks .ensures) (r .ensures .0) (r .ensures .2) one)
 
 returns-3 : tie.Need-returns-3 Inv-loop μ-loop
 returns-3 c =
     let l = c .before in
-    let a = l .before .before .before .before .before .before .args in
+    let a = l .before .before .before .before .before .before .before .before .args in
     λ e. unled-end (a .arcs .now) (a .from .now) (a .to .now) (a .n) (l .loop .i) (c .loop-test .left) (l .loop .inv .1)
 
 pub none-led-spec : {M : Type 1} → statement M
@@ -102,6 +119,7 @@ none-led-spec =
     returns
     known-places-requires
     marks-requires
+    skip-requires
     loop-holds
     mul-wide
     index-1-wide
@@ -116,7 +134,8 @@ none-led-spec =
     index-2-is-listed-2
     is-listed-requires
     returns-2
-    add-i
+    add-skip
+    skip-requires-2
     loop-less
     loop-again
     returns-3)

@@ -1,0 +1,74 @@
+-- `pairs::marked::block_marked` meets its contract. The loop keeps that, without a mark so far, no row gone through has one; laws of Blocks.
+-- Assumes nothing.
+use Prim.Native.Nat.{_+_, _-_, _≤_}
+use native.Mathlib.Omega.{arith}
+use mathlib.Core.Path.{_≡_}
+use mathlib.Core.Bool.{false}
+use Rattle.pairs.specs.Pairs.{NoMarks}
+use Rattle.pairs.proofs.Blocks.{none-yet, one-more, all-eight}
+use borrow.Author.Needs.{needs}
+use Rattle.pairs.proofs.marked.block_marked.Statement.{statement}
+use Rattle.pairs.proofs.marked.block_marked.Tie as tie
+
+abbrev Inv-loop : tie.InvT-loop
+Inv-loop arcs seen i marked₀ k₀ marked k = (k ≤ 8) × (marked ≡ false → NoMarks arcs seen i (i + k))
+
+abbrev μ-loop : tie.MeasureT-loop
+μ-loop arcs seen i marked₀ k₀ marked k = 8 - k
+
+loop-holds : tie.Need-loop-holds Inv-loop μ-loop
+loop-holds c = let a = c .args in (search needs, λ e. none-yet (a .arcs .now) (a .seen .now) (a .i))
+
+add-wide : tie.Need-add-wide Inv-loop μ-loop
+add-wide c = search needs
+
+mul-wide : tie.Need-mul-wide Inv-loop μ-loop
+mul-wide c = search needs
+
+index-1-wide : tie.Need-index-1-wide Inv-loop μ-loop
+index-1-wide c = search needs
+
+index-2-wide : tie.Need-index-2-wide Inv-loop μ-loop
+index-2-wide c = search needs
+
+wide-requires : tie.Need-wide-requires Inv-loop μ-loop
+wide-requires c κs = search needs
+
+element-copy-out-marked : tie.Need-element-copy-out-marked Inv-loop μ-loop
+element-copy-out-marked c = search needs
+
+add-k : tie.Need-add-k Inv-loop μ-loop
+add-k c = search needs
+
+loop-less : tie.Need-loop-less Inv-loop μ-loop
+loop-less c = search needs
+
+loop-again : tie.Need-loop-again Inv-loop μ-loop
+loop-again c =
+    let l = c .before .before .before .before in
+    let a = l .before .args in
+    (search needs, one-more (a .arcs .now) (a .seen .now) (a .i) (l .loop .marked) (l .loop .k) (c .before .wide .result) (c .before .wide .ensures) (l .loop .inv .1))
+
+returns : tie.Need-returns Inv-loop μ-loop
+returns c =
+    let l = c .before in
+    let a = l .before .args in
+    all-eight (a .arcs .now) (a .seen .now) (a .i) (l .loop .marked) (l .loop .k) (omega arith) (omega arith) (l .loop .inv .1)
+
+pub block-marked-spec : {M : Type 1} → statement M
+block-marked-spec =
+    tie.close
+    (tie.spec
+    Inv-loop
+    μ-loop
+    loop-holds
+    add-wide
+    mul-wide
+    index-1-wide
+    index-2-wide
+    wide-requires
+    element-copy-out-marked
+    add-k
+    loop-less
+    loop-again
+    returns)

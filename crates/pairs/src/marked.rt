@@ -1,0 +1,40 @@
+// Arc rows whose source has no mark, passed over by blocks of eight. The marks of a block are put together and tested once, so that there is no
+// branch for each row.
+
+use crate::MARKS;
+use rules::ArcRow;
+use tables::rows;
+ghost use mathlib.Core.Path.{_≡_};
+ghost use mathlib.Core.Bool.{false};
+ghost use Prim.Native.Nat.{_+_, _≤_};
+ghost use lib.ListN.{length};
+ghost use Rattle.pairs.specs.Pairs.{NoMarks};
+
+// Whether one of the eight rows from i on has a mark.
+fn block_marked(arcs: &[ArcRow], seen: &[bool; MARKS], i: usize) -> bool
+    requires { ⌜ i + 8 ≤ length (now arcs) ⌝ }
+    ensures { λ r. ⌜ (r ≡ false → NoMarks (now (arcs .entry)) (now (seen .entry)) i (i + 8)) ⌝ }
+{
+    let mut marked = false;
+    let mut k: usize = 0;
+    while k < 8 {
+        marked = marked | seen[rows::wide(arcs[i + k][0]) % MARKS];
+        k += 1;
+    }
+    marked
+}
+
+// Goes on from a row by whole blocks without a mark: the row where it stops.
+pub fn skip(arcs: &[ArcRow], seen: &[bool; MARKS], from: usize) -> usize
+    requires { ⌜ from ≤ length (now arcs) ⌝ }
+    ensures { λ r. ⌜ (from ≤ r) × (r ≤ length (now (arcs .entry))) × NoMarks (now (arcs .entry)) (now (seen .entry)) from r ⌝ }
+{
+    let mut i = from;
+    while arcs.len() - i >= 8 {
+        if block_marked(arcs, seen, i) {
+            return i;
+        }
+        i += 8;
+    }
+    i
+}
