@@ -31,14 +31,13 @@ module _ (arcs : Table) (from to : List ℕ) (n : ℕ) where
   unled-start j q = below-none _
 
   -- a row whose source has no mark leads along none
-  pub unled-skip : (i : ℕ) (seen : List Bool) (s : ℕ) → n ≤ length from → seen ≡ marksOf (listOf (record { at = from; len = n })) → s ≡ getD (getD arcs i []) 0 0 → getD seen (s % 1024) false ≡ false → Unled i → Unled (i + 1)
-  unfolding listOf
-  unled-skip i seen s few em es h u j q =
-      let absent : getD (marksOf (take n from)) (getD (getD arcs i []) 0 0 % 1024) false ≡ false = rw (← em, ← es) h in
+  unled-skip : (i : ℕ) → n ≤ length from → getD (marksOf (take n from)) (getD (getD arcs i []) 0 0 % 1024) false ≡ false → Unled i → Unled (i + 1)
+  unled-skip i few absent u j q =
       below-more _ _ (u j q) (joins-no-source (getD from j 0) (getD to j 0) (getD arcs i []) (λ e. unmarked (take n from) (getD (getD arcs i []) 0 0) absent j (omega (arith, length-take-le n from few)) (e ∙ sym (getD-take n from j 0 q))))
 
   pub unled-run : (i r : ℕ) (seen : List Bool) → n ≤ length from → seen ≡ marksOf (listOf (record { at = from; len = n })) → i ≤ r → NoMarks arcs seen i r → Unled i → Unled r
-  unled-run i r seen few em l h = over-run Unled i r l (λ j a b. unled-skip j seen (getD (getD arcs j []) 0 0) few em refl (h j a b))
+  unfolding listOf
+  unled-run i r seen few em l h = over-run Unled i r l (λ j a b. unled-skip j few (rw (← em) (h j a b)))
 
   -- nor does one that is compared and is not listed
   pub unled-next : (i : ℕ) → someBelow (runsAt from to (getD (getD arcs i []) 0 0) (getD (getD arcs i []) 1 0)) n ≡ false → Unled i → Unled (i + 1)

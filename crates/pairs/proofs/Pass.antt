@@ -224,13 +224,15 @@ module _ (arcs : Table) (per : List ℕ) where
   pass-start = record { size = length-replicate {A = ℕ} 64 0; told = λ i q. rw (zeros i) (told-start arcs (from per i) (to per i)); clear = λ i q. zeros i }
 
   -- a row whose source has no mark joins no pair
-  pub pass-skip : (k : ℕ) (at : List ℕ) (seen : List Bool) (s : ℕ) → seen ≡ marksOf per → s ≡ getD (getD arcs k []) 0 0 → getD seen (s % 1024) false ≡ false → Passed k at → Passed (k + 1) at
-  pass-skip k at seen s em es h p =
-      let absent : getD (marksOf per) (getD (getD arcs k []) 0 0 % 1024) false ≡ false = rw (← em, ← es) h in
-      record { size = p .size; told = λ i q. told-skip arcs (from per i) (to per i) k (getD at i 0) (λ na. joins-no-source (from per i) (to per i) (getD arcs k []) (unmarked per (getD (getD arcs k []) 0 0) absent i q)) (p .told i q); clear = p .clear }
+  pass-skip : (k : ℕ) (at : List ℕ) → getD (marksOf per) (getD (getD arcs k []) 0 0 % 1024) false ≡ false → Passed k at → Passed (k + 1) at
+  pass-skip k at absent p = record {
+    size = p .size;
+    told = λ i q. told-skip arcs (from per i) (to per i) k (getD at i 0) (λ na. joins-no-source (from per i) (to per i) (getD arcs k []) (unmarked per (getD (getD arcs k []) 0 0) absent i q)) (p .told i q);
+    clear = p .clear;
+  }
 
   pub pass-run : (k r : ℕ) (at : List ℕ) (seen : List Bool) → seen ≡ marksOf per → k ≤ r → NoMarks arcs seen k r → Passed k at → Passed r at
-  pass-run k r at seen em l h = over-run (λ (j : ℕ). Passed j at) k r l (λ j a b. pass-skip j at seen (getD (getD arcs j []) 0 0) em refl (h j a b))
+  pass-run k r at seen em l h = over-run (λ (j : ℕ). Passed j at) k r l (λ j a b. pass-skip j at (rw (← em) (h j a b)))
 
   pub pass-note : (k : ℕ) (at at₁ : List ℕ) → length per ≤ 64 → length arcs ≤ rowLimit → k < length arcs → at₁ ≡ noted per (getD (getD arcs k []) 0 0) (getD (getD arcs k []) 1 0) (k + 1) at → Passed k at → Passed (k + 1) at₁
   unfolding isPair

@@ -32,6 +32,10 @@ marksOf l = upTo (λ i seen. set seen (getD l i 0 % markCount) true) (length l) 
 abbrev pub NoMarks : Table → List Bool → ℕ → ℕ → Type 0
 NoMarks arcs seen i r = (j : ℕ) → i ≤ j → j < r → getD seen (getD (getD arcs j []) 0 0 % markCount) false ≡ false
 
+-- from row i on, r is reached over such rows
+abbrev pub Reached : Table → List Bool → ℕ → ℕ → Type 0
+Reached arcs seen i r = (i ≤ r) × ((r ≤ length arcs) × NoMarks arcs seen i r)
+
 -- pair i runs from s to d
 unfoldable pub isPair : List ℕ → ℕ → ℕ → ℕ → Bool
 isPair per i s d = eqb s (getD per i 0) && eqb d (getD per (after (length per) i) 0)

@@ -1,12 +1,10 @@
 // That no arc leads along any of a list of pairs, told in one pass over the arc table. Pair j runs from the vertex from[j] to the vertex to[j].
 // As in the pass for a perimeter's pairs, only a row whose source has a mark is compared with the pairs.
 
-use crate::MARKS;
 use crate::marked;
 use rules::ArcRow;
 use rules::Links;
 use rules::RING;
-use tables::rows;
 ghost use mathlib.Core.Path.{_≡_};
 ghost use mathlib.Core.Bool.{true};
 ghost use Prim.Native.Nat.{_≤_};
@@ -48,10 +46,8 @@ pub fn none_led(arcs: &[ArcRow], from: &[u32; RING], to: &[u32; RING], n: usize)
     let seen = crate::marks(Links { at: *from, len: n });
     let mut i = marked::skip(arcs, &seen, 0);
     while i < arcs.len() {
-        if seen[rows::wide(arcs[i][0]) % MARKS] {
-            if is_listed(from, to, n, arcs[i][0], arcs[i][1]) {
-                return false;
-            }
+        if is_listed(from, to, n, arcs[i][0], arcs[i][1]) {
+            return false;
         }
         i = marked::skip(arcs, &seen, i + 1);
     }

@@ -91,9 +91,7 @@ pub fn perimeter_arcs(arcs: &[ArcRow], per: Links) -> Links
     let seen = marks(per);
     let mut i = marked::skip(arcs, &seen, 0);
     while i < arcs.len() {
-        if seen[rows::wide(arcs[i][0]) % MARKS] {
-            note(&mut at, per, arcs[i][0], arcs[i][1], i as u32 + 1);
-        }
+        note(&mut at, per, arcs[i][0], arcs[i][1], i as u32 + 1);
         i = marked::skip(arcs, &seen, i + 1);
     }
     Links { at, len: n }

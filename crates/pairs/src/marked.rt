@@ -8,7 +8,7 @@ ghost use mathlib.Core.Path.{_≡_};
 ghost use mathlib.Core.Bool.{false};
 ghost use Prim.Native.Nat.{_+_, _≤_};
 ghost use lib.ListN.{length};
-ghost use Rattle.pairs.specs.Pairs.{NoMarks};
+ghost use Rattle.pairs.specs.Pairs.{NoMarks, Reached};
 
 // Whether one of the eight rows from i on has a mark.
 fn block_marked(arcs: &[ArcRow], seen: &[bool; MARKS], i: usize) -> bool
@@ -25,9 +25,9 @@ fn block_marked(arcs: &[ArcRow], seen: &[bool; MARKS], i: usize) -> bool
 }
 
 // Goes on from a row by whole blocks without a mark: the row where it stops.
-pub fn skip(arcs: &[ArcRow], seen: &[bool; MARKS], from: usize) -> usize
+fn skip_blocks(arcs: &[ArcRow], seen: &[bool; MARKS], from: usize) -> usize
     requires { ⌜ from ≤ length (now arcs) ⌝ }
-    ensures { λ r. ⌜ (from ≤ r) × (r ≤ length (now (arcs .entry))) × NoMarks (now (arcs .entry)) (now (seen .entry)) from r ⌝ }
+    ensures { λ r. ⌜ Reached (now (arcs .entry)) (now (seen .entry)) from r ⌝ }
 {
     let mut i = from;
     while arcs.len() - i >= 8 {
@@ -37,4 +37,27 @@ pub fn skip(arcs: &[ArcRow], seen: &[bool; MARKS], from: usize) -> usize
         i += 8;
     }
     i
+}
+
+// Goes on from a row to the first that has a mark.
+fn skip_rows(arcs: &[ArcRow], seen: &[bool; MARKS], from: usize) -> usize
+    requires { ⌜ from ≤ length (now arcs) ⌝ }
+    ensures { λ r. ⌜ Reached (now (arcs .entry)) (now (seen .entry)) from r ⌝ }
+{
+    let mut i = from;
+    while i < arcs.len() {
+        if seen[rows::wide(arcs[i][0]) % MARKS] {
+            return i;
+        }
+        i += 1;
+    }
+    i
+}
+
+// The same, by blocks as far as they have no mark.
+pub fn skip(arcs: &[ArcRow], seen: &[bool; MARKS], from: usize) -> usize
+    requires { ⌜ from ≤ length (now arcs) ⌝ }
+    ensures { λ r. ⌜ Reached (now (arcs .entry)) (now (seen .entry)) from r ⌝ }
+{
+    skip_rows(arcs, seen, skip_blocks(arcs, seen, from))
 }

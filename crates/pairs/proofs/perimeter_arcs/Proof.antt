@@ -1,10 +1,8 @@
 -- `pairs::perimeter_arcs` meets its contract. The loop keeps what the rows passed by have told of each pair; laws of Pass. Assumes nothing.
 use Prim.Native.Nat.{_+_, _-_, _≤_}
-use mathlib.Core.Path.{_∙_}
-use mathlib.Core.Logic.{⊎-elim}
 use lib.ListN.{length, replicate}
 use Rattle.rules.specs.Mesh.{listOf}
-use Rattle.pairs.proofs.Pass.{Passed, pass-start, pass-skip, pass-run, pass-note, pass-end, pass-large}
+use Rattle.pairs.proofs.Pass.{Passed, pass-start, pass-run, pass-note, pass-end, pass-large}
 use borrow.Author.Needs.{needs}
 use Rattle.pairs.proofs.perimeter_arcs.Statement.{statement}
 use Rattle.pairs.proofs.perimeter_arcs.Tie as tie
@@ -38,22 +36,7 @@ loop-holds c =
     let arcs = a .arcs .now in
     let per = listOf (a .per) in
     let m = c .before .before .marks in
-    (search needs, pass-run arcs per 0 (c .skip .result) (replicate 64 0) (m .result) (m .ensures) (c .skip .ensures .0) (c .skip .ensures .2) (pass-start arcs per))
-
-mul-wide : tie.Need-mul-wide Inv-loop μ-loop
-mul-wide c = search needs
-
-index-1-wide : tie.Need-index-1-wide Inv-loop μ-loop
-index-1-wide c = search needs
-
-index-2-wide : tie.Need-index-2-wide Inv-loop μ-loop
-index-2-wide c = search needs
-
-wide-requires : tie.Need-wide-requires Inv-loop μ-loop
-wide-requires c κs = search needs
-
-array-read-if2 : tie.Need-array-read-if2 Inv-loop μ-loop
-array-read-if2 c = search needs
+    (search needs, pass-run arcs per 0 (c .skip .result) (replicate 64 0) (m .result) (m .ensures) (c .skip .ensures .0) (c .skip .ensures .1 .1) (pass-start arcs per))
 
 mul-note : tie.Need-mul-note Inv-loop μ-loop
 mul-note c = search needs
@@ -93,18 +76,16 @@ loop-less c = search needs
 
 loop-again : tie.Need-loop-again Inv-loop μ-loop
 loop-again c =
-    let j = c .before .before in
-    let l = j .before .before .before .before in
+    let n = c .before .before .note in
+    let l = c .before .before .before .before .before .before .before in
     let m = l .before .before .before in
     let a = m .before .before .before .before .args in
     let arcs = a .arcs .now in
     let per = listOf (a .per) in
     let i = l .loop .i in
-    let one : Passed arcs per (i + 1) (j .if2 .at) =
-    ⊎-elim (λ w. pass-note arcs per i (l .loop .at) (j .if2 .at) (m .before .before .known-few .ensures) (m .before .if1 .left) (search needs) (w .5 ∙ w .4 .ensures) (l .loop .inv .1))
-    (λ w. rw (w .1) (pass-skip arcs per i (l .loop .at) (m .marks .result) (j .before .wide .result) (m .marks .ensures) (j .before .wide .ensures) (w .0 .left) (l .loop .inv .1))) (j .if2 .came) in
+    let one = pass-note arcs per i (l .loop .at) (n .last .0) (m .before .before .known-few .ensures) (m .before .if1 .left) (search needs) (n .ensures) (l .loop .inv .1) in
     let r = c .skip2 in
-    (r .ensures .1, pass-run arcs per (i + 1) (r .result) (j .if2 .at) (m .marks .result) (m .marks .ensures) (r .ensures .0) (r .ensures .2) one)
+    (r .ensures .1 .0, pass-run arcs per (i + 1) (r .result) (n .last .0) (m .marks .result) (m .marks .ensures) (r .ensures .0) (r .ensures .1 .1) one)
 
 returns-2 : tie.Need-returns-2 Inv-loop μ-loop
 returns-2 c =
@@ -125,11 +106,6 @@ perimeter-arcs-spec =
     marks-requires
     skip-requires
     loop-holds
-    mul-wide
-    index-1-wide
-    index-2-wide
-    wide-requires
-    array-read-if2
     mul-note
     index-1-note
     index-2-note

@@ -1,11 +1,10 @@
 -- `pairs::joined::none_led` meets its contract. The loop keeps that no row passed by leads along a pair; laws of Led. Assumes nothing.
 use Prim.Native.Nat.{ℕ, _+_, _-_, _≤_}
 use native.Mathlib.Omega.{arith}
-use mathlib.Core.Path.{_≡_, ap, sym, _∙_}
+use mathlib.Core.Path.{_≡_, ap}
 use mathlib.Core.Bool.{Bool, cond}
-use mathlib.Core.Logic.{⊎-elim}
 use lib.ListN.{length}
-use Rattle.pairs.proofs.Led.{Unled, unled-start, unled-skip, unled-run, unled-next, unled-end}
+use Rattle.pairs.proofs.Led.{Unled, unled-start, unled-run, unled-next, unled-end}
 use borrow.Author.Needs.{needs}
 use Rattle.pairs.proofs.joined.none_led.Statement.{statement}
 use Rattle.pairs.proofs.joined.none_led.Tie as tie
@@ -36,22 +35,7 @@ loop-holds c =
     let arcs = a .arcs .now in
     let from = a .from .now in
     let to = a .to .now in
-    (search needs, unled-run arcs from to (a .n) 0 (c .skip .result) (m .marks .result) (omega (arith, k .known-places .ensures)) (m .marks .ensures) (c .skip .ensures .0) (c .skip .ensures .2) (unled-start arcs from to (a .n)))
-
-mul-wide : tie.Need-mul-wide Inv-loop μ-loop
-mul-wide c = search needs
-
-index-1-wide : tie.Need-index-1-wide Inv-loop μ-loop
-index-1-wide c = search needs
-
-index-2-wide : tie.Need-index-2-wide Inv-loop μ-loop
-index-2-wide c = search needs
-
-wide-requires : tie.Need-wide-requires Inv-loop μ-loop
-wide-requires c κs = search needs
-
-array-read-if2 : tie.Need-array-read-if2 Inv-loop μ-loop
-array-read-if2 c = search needs
+    (search needs, unled-run arcs from to (a .n) 0 (c .skip .result) (m .marks .result) (omega (arith, k .known-places .ensures)) (m .marks .ensures) (c .skip .ensures .0) (c .skip .ensures .1 .1) (unled-start arcs from to (a .n)))
 
 mul-is-listed : tie.Need-mul-is-listed Inv-loop μ-loop
 mul-is-listed c = search needs
@@ -89,7 +73,7 @@ loop-less c = search needs
 loop-again : tie.Need-loop-again Inv-loop μ-loop
 loop-again c =
     let j = c .before .before in
-    let l = j .before .before .before .before in
+    let l = j .before .before .before .before .before in
     let m = l .before .before .before in
     let k = m .before .before in
     let a = k .before .before .before .args in
@@ -97,12 +81,9 @@ loop-again c =
     let from = a .from .now in
     let to = a .to .now in
     let i = l .loop .i in
-    let few : a .n ≤ length from = omega (arith, k .known-places .ensures) in
-    let one : Unled arcs from to (a .n) (i + 1) =
-    ⊎-elim (λ w. unled-next arcs from to (a .n) i (sym (w .3 .ensures) ∙ w .4 .left) (l .loop .inv .1))
-    (λ w. unled-skip arcs from to (a .n) i (m .marks .result) (j .before .wide .result) few (m .marks .ensures) (j .before .wide .ensures) (w .left) (l .loop .inv .1)) (j .if2 .came) in
+    let one = unled-next arcs from to (a .n) i (rw (← j .before .is-listed .ensures) (j .if2 .left)) (l .loop .inv .1) in
     let r = c .skip2 in
-    (r .ensures .1, unled-run arcs from to (a .n) (i + 1) (r .result) (m .marks .result) few (m .marks .ensures) (r .ensures .0) (r .ensures .2) one)
+    (r .ensures .1 .0, unled-run arcs from to (a .n) (i + 1) (r .result) (m .marks .result) (omega (arith, k .known-places .ensures)) (m .marks .ensures) (r .ensures .0) (r .ensures .1 .1) one)
 
 returns-3 : tie.Need-returns-3 Inv-loop μ-loop
 returns-3 c =
@@ -121,11 +102,6 @@ none-led-spec =
     marks-requires
     skip-requires
     loop-holds
-    mul-wide
-    index-1-wide
-    index-2-wide
-    wide-requires
-    array-read-if2
     mul-is-listed
     index-1-is-listed
     index-2-is-listed

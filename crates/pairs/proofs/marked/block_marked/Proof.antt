@@ -5,7 +5,7 @@ use native.Mathlib.Omega.{arith}
 use mathlib.Core.Path.{_≡_}
 use mathlib.Core.Bool.{false}
 use Rattle.pairs.specs.Pairs.{NoMarks}
-use Rattle.pairs.proofs.Blocks.{none-yet, one-more, all-eight}
+use Rattle.pairs.proofs.Blocks.{no-rows, one-more}
 use borrow.Author.Needs.{needs}
 use Rattle.pairs.proofs.marked.block_marked.Statement.{statement}
 use Rattle.pairs.proofs.marked.block_marked.Tie as tie
@@ -17,7 +17,7 @@ abbrev μ-loop : tie.MeasureT-loop
 μ-loop arcs seen i marked₀ k₀ marked k = 8 - k
 
 loop-holds : tie.Need-loop-holds Inv-loop μ-loop
-loop-holds c = let a = c .args in (search needs, λ e. none-yet (a .arcs .now) (a .seen .now) (a .i))
+loop-holds c = let a = c .args in (search needs, λ e. no-rows (a .arcs .now) (a .seen .now) (a .i) (a .i + 0) (omega arith))
 
 add-wide : tie.Need-add-wide Inv-loop μ-loop
 add-wide c = search needs
@@ -47,13 +47,14 @@ loop-again : tie.Need-loop-again Inv-loop μ-loop
 loop-again c =
     let l = c .before .before .before .before in
     let a = l .before .args in
-    (search needs, one-more (a .arcs .now) (a .seen .now) (a .i) (l .loop .marked) (l .loop .k) (c .before .wide .result) (c .before .wide .ensures) (l .loop .inv .1))
+    (search needs, one-more (a .arcs .now) (a .seen .now) (a .i) (l .loop .k) (c .before .wide .result) (l .loop .marked) (c .before .wide .ensures) (l .loop .inv .1))
 
 returns : tie.Need-returns Inv-loop μ-loop
 returns c =
     let l = c .before in
     let a = l .before .args in
-    all-eight (a .arcs .now) (a .seen .now) (a .i) (l .loop .marked) (l .loop .k) (omega arith) (omega arith) (l .loop .inv .1)
+    let all : l .loop .k ≡ 8 = omega arith in
+    rw all at (l .loop .inv .1)
 
 pub block-marked-spec : {M : Type 1} → statement M
 block-marked-spec =

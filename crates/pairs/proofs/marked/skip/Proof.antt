@@ -1,56 +1,22 @@
--- `pairs::marked::skip` meets its contract. The loop keeps that no row gone through has a mark; laws of Blocks. Assumes nothing.
-use Prim.Native.Nat.{_+_, _-_, _≤_}
-use lib.ListN.{length}
-use Rattle.pairs.specs.Pairs.{NoMarks}
-use Rattle.pairs.proofs.Blocks.{no-rows, join-runs}
+-- `pairs::marked::skip` meets its contract: one run of rows without a mark follows the other; laws of Blocks. Assumes nothing.
+use native.Mathlib.Omega.{arith}
+use Rattle.pairs.proofs.Blocks.{join-runs}
 use borrow.Author.Needs.{needs}
 use Rattle.pairs.proofs.marked.skip.Statement.{statement}
 use Rattle.pairs.proofs.marked.skip.Tie as tie
 
-abbrev Inv-loop : tie.InvT-loop
-Inv-loop arcs seen from i₀ i = (from ≤ i) × ((i ≤ length arcs) × NoMarks arcs seen from i)
+skip-blocks-requires : tie.Need-skip-blocks-requires
+skip-blocks-requires c κs = search needs
 
-abbrev μ-loop : tie.MeasureT-loop
-μ-loop arcs seen from i₀ i = length arcs - i
+skip-rows-requires : tie.Need-skip-rows-requires
+skip-rows-requires c κs = search needs
 
-loop-holds : tie.Need-loop-holds Inv-loop μ-loop
-loop-holds c = let a = c .args in (search needs, (search needs, no-rows (a .arcs .now) (a .seen .now) (a .from)))
-
-sub-loop : tie.Need-sub-loop Inv-loop μ-loop
-sub-loop c = search needs
-
-block-marked-requires : tie.Need-block-marked-requires Inv-loop μ-loop
-block-marked-requires c κs = search needs
-
-returns : tie.Need-returns Inv-loop μ-loop
-returns c = let v = c .before .before .before .loop .inv in (v .0, v .1 .0, v .1 .1)
-
-add-i : tie.Need-add-i Inv-loop μ-loop
-add-i c = search needs
-
-loop-less : tie.Need-loop-less Inv-loop μ-loop
-loop-less c = search needs
-
-loop-again : tie.Need-loop-again Inv-loop μ-loop
-loop-again c =
-    let l = c .before .before .before in
-    let a = l .before .args in
-    (search needs, (search needs, join-runs (a .arcs .now) (a .seen .now) (a .from) (l .loop .i) (l .loop .i + 8) (l .loop .inv .1 .1) (c .before .block-marked .ensures (c .if1 .left))))
-
-returns-2 : tie.Need-returns-2 Inv-loop μ-loop
-returns-2 c = let v = c .before .loop .inv in (v .0, v .1 .0, v .1 .1)
+returns : tie.Need-returns
+returns c =
+    let b = c .before .skip-blocks in
+    let r = c .skip-rows in
+    let a = c .before .before .args in
+    (omega (arith, b .ensures .0, r .ensures .0), (r .ensures .1 .0, join-runs (a .arcs .now) (a .seen .now) (a .from) (b .result) (r .result) (b .ensures .1 .1) (r .ensures .1 .1)))
 
 pub skip-spec : {M : Type 1} → statement M
-skip-spec =
-    tie.close
-    (tie.spec
-    Inv-loop
-    μ-loop
-    loop-holds
-    sub-loop
-    block-marked-requires
-    returns
-    add-i
-    loop-less
-    loop-again
-    returns-2)
+skip-spec = tie.close (tie.spec skip-blocks-requires skip-rows-requires returns)

@@ -1,0 +1,70 @@
+-- `pairs::marked::skip_rows` meets its contract. The loop keeps that no row gone through has a mark; laws of Blocks. Assumes nothing.
+use Prim.Native.Nat.{_+_, _-_}
+use lib.ListN.{length}
+use Rattle.pairs.specs.Pairs.{Reached}
+use Rattle.pairs.proofs.Blocks.{no-rows, one-row, join-runs}
+use borrow.Author.Needs.{needs}
+use Rattle.pairs.proofs.marked.skip_rows.Statement.{statement}
+use Rattle.pairs.proofs.marked.skip_rows.Tie as tie
+
+abbrev Inv-loop : tie.InvT-loop
+Inv-loop arcs seen from i₀ i = Reached arcs seen from i
+
+abbrev μ-loop : tie.MeasureT-loop
+μ-loop arcs seen from i₀ i = length arcs - i
+
+loop-holds : tie.Need-loop-holds Inv-loop μ-loop
+loop-holds c = let a = c .args in (search needs, (search needs, no-rows (a .arcs .now) (a .seen .now) (a .from) (a .from) (search needs)))
+
+mul-wide : tie.Need-mul-wide Inv-loop μ-loop
+mul-wide c = search needs
+
+index-1-wide : tie.Need-index-1-wide Inv-loop μ-loop
+index-1-wide c = search needs
+
+index-2-wide : tie.Need-index-2-wide Inv-loop μ-loop
+index-2-wide c = search needs
+
+wide-requires : tie.Need-wide-requires Inv-loop μ-loop
+wide-requires c κs = search needs
+
+element-copy-out-if1 : tie.Need-element-copy-out-if1 Inv-loop μ-loop
+element-copy-out-if1 c = search needs
+
+returns : tie.Need-returns Inv-loop μ-loop
+returns c = c .before .before .before .before .before .loop .inv
+
+add-i : tie.Need-add-i Inv-loop μ-loop
+add-i c = search needs
+
+loop-less : tie.Need-loop-less Inv-loop μ-loop
+loop-less c = search needs
+
+loop-again : tie.Need-loop-again Inv-loop μ-loop
+loop-again c =
+    let w = c .before .before .wide in
+    let l = c .before .before .before .before .before in
+    let a = l .before .args in
+    let i = l .loop .i in
+    (search needs, (search needs, join-runs (a .arcs .now) (a .seen .now) (a .from) i (i + 1) (l .loop .inv .1 .1) (one-row (a .arcs .now) (a .seen .now) i (w .result) (w .ensures) (c .if1 .left))))
+
+returns-2 : tie.Need-returns-2 Inv-loop μ-loop
+returns-2 c = c .before .loop .inv
+
+pub skip-rows-spec : {M : Type 1} → statement M
+skip-rows-spec =
+    tie.close
+    (tie.spec
+    Inv-loop
+    μ-loop
+    loop-holds
+    mul-wide
+    index-1-wide
+    index-2-wide
+    wide-requires
+    element-copy-out-if1
+    returns
+    add-i
+    loop-less
+    loop-again
+    returns-2)
