@@ -12,7 +12,7 @@ use Rattle.names.proofs.Loops.{Passed, none-yet, one-more, all-passed}
 use Rattle.since.specs.Since.{rowAt, sameRow, arcKept, arcMade, arcsStill, heldNow, heldBefore}
 use Rattle.since.specs.Changes.{Listed, SameRows}
 use Rattle.since.proofs.StillLoops.{arcPasses, addsNow, addsBefore, arc-same, arc-other, now-none, now-some, before-none, before-some, sum-stays, sum-goes, sum-all}
-use Rattle.since.proofs.StillBlocks.{over-run}
+use Rattle.pairs.proofs.Blocks.{over-run}
 use Rattle.since.proofs.Listing.{ListedTo, none-listed, listed-more, listed-same, all-listed}
 
 module _ (m n : Mesh) where

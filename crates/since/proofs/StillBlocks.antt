@@ -1,8 +1,6 @@
--- For the blocks of rows that are as they were: numbers whose differences are 0, and what is kept over a run of such rows.
+-- For the blocks of rows that are as they were: numbers whose differences are 0, and runs of such rows.
 use Prim.Native.Nat.{ℕ, _+_, _≤_, _<_}
-use native.Mathlib.Nat.{le-refl}
-use native.Mathlib.Decide.{le-ind, decLt}
-use native.Mathlib.Numerals.{add-one}
+use native.Mathlib.Decide.{decLt}
 use native.Mathlib.Omega.{arith}
 use mathlib.Core.Path.{_≡_, _∙_, subst}
 use mathlib.Core.Bool.{true}
@@ -83,9 +81,3 @@ module _ (old new : Table) (i : ℕ) where
       go : Dec (j < m) → sameRow (rowAt old j) (rowAt new j) ≡ true
       go (yes l) = h j a l
       go (no l) = s j (omega arith) b
-
--- ---- what is kept from row to row is kept over a run
-
-pub over-run : (P : ℕ → Type 0) (i r : ℕ) → i ≤ r → ((k : ℕ) → i ≤ k → k < r → P k → P (k + 1)) → P i → P r
-over-run P i r l s h =
-    le-ind (λ (k : ℕ). k ≤ r → P k) (λ q. h) (λ k a f q. subst P (add-one k) (s k a q (f (omega arith)))) r l (le-refl r)

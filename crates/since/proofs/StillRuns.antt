@@ -9,7 +9,7 @@ use Rattle.since.specs.Since.{lastNew, newLinks, faceStill}
 use Rattle.since.specs.Changes.{SameRows}
 use Rattle.since.proofs.StillLoops.{edgePasses, edge-same, last-stays, links-stay, sum-stays}
 use Rattle.since.proofs.StillFaces.{gains, loses, face-same, gains-none, loses-none}
-use Rattle.since.proofs.StillBlocks.{over-run}
+use Rattle.pairs.proofs.Blocks.{over-run}
 
 -- ---- edges: the last new first cell, the links of the new ones, and that all pass
 
