@@ -19,11 +19,12 @@ needs_cargo = $(call needs,cargo,Install Rust.)
 needs_python = $(call needs,python3,Install Python 3.)
 needs_cc = $(call needs,$(CC),Install a C compiler.)
 
-# The last line printed is rt's own: N passed, M failed. rt waits for all crates of a batch before it starts the next: batches of four keep two
-# cores busy where batches of two do not. RT_JOBS sets another number.
+# The last line printed is rt's own: N passed, M failed. rt proves crates that need nothing of each other in batches, and waits for a whole batch
+# before it starts the next. At most five crates need nothing of each other, so five at a time: with fewer a core stands idle between batches.
+# A crate takes up to 3.5 GB. RT_JOBS sets another number.
 test:
 	@$(needs_rt)
-	@RT_JOBS=$${RT_JOBS:-4} exec rt ci
+	@RT_JOBS=$${RT_JOBS:-5} exec rt ci
 
 # ---- programs
 
