@@ -1,11 +1,12 @@
 -- Every row before the lowest unused one is used, and stays so when a record is put there: where the next search may start.
-use Prim.Native.Nat.{ℕ, zero, suc, _+_, _-_, _<_}
+use Prim.Native.Nat.{ℕ, zero, suc, _+_, _-_, _≤_, _<_}
 use native.Mathlib.Omega.{arith}
-use native.Mathlib.Decide.{ℕ-discrete}
+use native.Mathlib.Nat.{le-refl}
+use native.Mathlib.Decide.{ℕ-discrete, decLt}
 use mathlib.Core.Path.{_≡_, refl, ap, sym, subst, _∙_}
-use mathlib.Core.Bool.{Bool, true, false, cond}
+use mathlib.Core.Bool.{Bool, true, false, cond, false≢true}
 use mathlib.Core.List.{List, [], _∷_}
-use lib.ListN.{length, getD, set}
+use lib.ListN.{length, getD, set, List·getD-eq-default}
 use lib.Seq.{getD-set-other}
 use lib.Dec.{eqb, leb}
 use borrow.Author.Tests.{eq-eqb, ne-eqb}
@@ -14,15 +15,30 @@ use Rattle.rules.specs.Mesh.{Mesh}
 use Rattle.rules.specs.Link.{newArc, newEdge}
 use Rattle.rules.proofs.Counts.{found-passes}
 use Rattle.tables.proofs.Scans.{Missed}
-use Rattle.edges.specs.Free.{UsedBefore}
+use Rattle.edges.specs.Free.{UsedBefore, UsedRows}
 
 -- ---- a search from a row on
 
 pub used-none : (t : Table) → UsedBefore t 0
 used-none t k l = absurd (omega arith)
 
-pub used-missed : (t : Table) (from i : ℕ) → i ≡ from - 1 → UsedBefore t from → Missed unused t [] i
-used-missed t from i e h k l = h k (omega arith)
+-- all the rows before it being used, it is one of the table's or the first past the end
+pub used-within : (t : Table) (from i : ℕ) → i ≡ from - 1 → UsedBefore t from → i ≤ length t
+used-within t from i e h = go (decLt (length t) i)
+  where
+    go : Dec (length t < i) → i ≤ length t
+    go (yes l) =
+        let past = ap unused (List·getD-eq-default t [] (le-refl (length t))) in
+        absurd (false≢true (sym (h (length t) (omega arith)) ∙ past))
+    go (no l) = omega arith
+
+-- used rows passed over from there on
+pub used-missed : (t : Table) (from s i : ℕ) → s ≡ from - 1 → UsedBefore t from → UsedRows t s i → Missed unused t [] i
+used-missed t from s i e h u k l = go (decLt k s)
+  where
+    go : Dec (k < s) → unused (getD t k []) ≡ false
+    go (yes b) = h k (omega arith)
+    go (no b) = u k (omega arith) l
 
 -- ---- the lowest unused row
 
@@ -62,11 +78,8 @@ used-kept t r l h k q = go (ℕ-discrete (freeRow t) 0)
     go : Dec (freeRow t ≡ 0) → unused (getD (cond (eqb (freeRow t) 0) t (set t (freeRow t - 1) r)) k []) ≡ false
     go (yes z) = rw (eq-eqb (freeRow t) 0 z) (h k q)
     go (no nz) =
-        let apart : k ≡ freeRow t - 1 → ⊥ = λ e. clash (sym (h k q) ∙ ap (λ (i : ℕ). unused (getD t i [])) e ∙ free-unused t nz) in
+        let apart : k ≡ freeRow t - 1 → ⊥ = λ e. false≢true (sym (h k q) ∙ ap (λ (i : ℕ). unused (getD t i [])) e ∙ free-unused t nz) in
         rw (ne-eqb (freeRow t) 0 nz) (ap (λ (s : List ℕ). unused s) (getD-set-other t (freeRow t - 1) k r [] apart) ∙ h k q)
-      where
-        clash : false ≡ true → ⊥
-        clash e = let z : _≡_ {A = ℕ} 0 1 = ap (λ (b : Bool). cond b 1 0) e in omega arith
 
 -- ---- a new edge
 

@@ -1,6 +1,8 @@
 // The lowest unused row, looked for from a row on before which every row is used. It carries document 01's "a new record takes the lowest
-// unused row": a record that is made after another need not look again at the rows before the other's.
+// unused row": a record that is made after another need not look again at the rows before the other's. Blocks of used rows are passed over
+// first.
 
+use crate::blocks;
 use rules::ArcRow;
 use rules::EdgeRow;
 ghost use mathlib.Core.Path.{_≡_};
@@ -35,7 +37,7 @@ pub fn free_arc(arcs: &[ArcRow], from: u32) -> u32
     if arcs.len() > ROW_LIMIT {
         return 0;
     }
-    let mut i = row_of(from);
+    let mut i = blocks::skip6(arcs, row_of(from));
     while i < arcs.len() {
         if arcs[i][0] == 0 {
             return i as u32 + 1;
@@ -53,7 +55,7 @@ pub fn free_edge(edges: &[EdgeRow], from: u32) -> u32
     if edges.len() > ROW_LIMIT {
         return 0;
     }
-    let mut i = row_of(from);
+    let mut i = blocks::skip3(edges, row_of(from));
     while i < edges.len() {
         if edges[i][0] == 0 {
             return i as u32 + 1;
