@@ -10,8 +10,8 @@ use rules::ArcRow;
 use rules::EdgeRow;
 use rules::FaceRow;
 use rules::VertexRow;
+use sound::holders;
 use sound::links;
-use sound::passes;
 use tables::rows as cells;
 ghost use mathlib.Core.Path.{_≡_};
 ghost use mathlib.Core.Bool.{true, cond};
@@ -173,7 +173,7 @@ fn arc_other(
 fn holds(row: ArcRow) -> usize
     ensures { λ r. ⌜ (r ≡ cond (holdsSome row) 1 0) × (r ≤ 1) ⌝ }
 {
-    if passes::holds_some(row) {
+    if holders::holds_some(row) {
         return 1;
     }
     0

@@ -1,4 +1,5 @@
 pub mod Rows
+pub mod HeldRuns
 pub mod Named
 pub mod RingRows
 pub mod Counting

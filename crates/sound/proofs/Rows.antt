@@ -6,7 +6,7 @@ use mathlib.Core.Path.{_≡_, refl, ap, sym, subst, _∙_}
 use mathlib.Core.Bool.{Bool, true, false, not, cond, _&&_, _||_}
 use mathlib.Core.List.{List, [], _∷_}
 use lib.ListN.{length, getD}
-use lib.Dec.{T, eqb, ltb}
+use lib.Dec.{eqb, ltb}
 use lib.Ieee.Fits.{and-l, and-r}
 use borrow.Author.Tests.{eq-eqb, ne-eqb}
 use Rattle.rules.specs.Table.{Table, allBelow, every, count, there, used, unused}
@@ -151,11 +151,7 @@ holder-passes arcs r e =
     let f = T-true (not (eqb (getD r 4 0) 0)) (and-r (used r) (not (eqb (getD r 4 0) 0)) (true-T e)) in
     (rw (u, f), u)
 
--- one more of two numbers: of the first, or of the second if so
-pub one-first : (held loose : ℕ) (b : Bool) → b ≡ true → held + 1 + loose ≡ cond b (held + loose + 1) (held + loose)
-one-first held loose true e = omega arith
-one-first held loose false e = let z : ⊥ = subst T (sym e) tt in absurd z
-
+-- one more of the second of two numbers, if so
 pub one-second : (held loose more : ℕ) (b : Bool) → more ≡ cond b (loose + 1) loose → held + more ≡ cond b (held + loose + 1) (held + loose)
 one-second held loose more true e = omega arith
 one-second held loose more false e = omega arith

@@ -1,9 +1,10 @@
 -- The clauses of Sound by the table that they go over, as the code tests them: what one pass over each table tells.
-use mathlib.Core.Bool.{Bool, not, cond, _&&_}
+use mathlib.Core.Path.{_≡_}
+use mathlib.Core.Bool.{Bool, true, not, cond, _&&_}
 use mathlib.Core.List.{[]}
 use lib.ListN.{length, getD}
 use lib.Dec.{eqb, ltb}
-use Prim.Native.Nat.{ℕ, _+_, _*_}
+use Prim.Native.Nat.{ℕ, _+_, _*_, _≤_, _<_}
 use Rattle.rules.specs.Table.{Table, every, count, eachUsed, allBelow, there, used}
 use Rattle.rules.specs.Mesh.{Mesh, source, dest, edgeArc, nextKey, vertexKind, edgeKind, faceKind}
 use Rattle.proved.specs.Demand.{holdsSome}
@@ -54,3 +55,11 @@ heldIf b arcs = cond b (count holdsSome arcs + 1) 0
 
 abbrev pub usedIf : Bool → Table → ℕ
 usedIf b edges = cond b (count used edges + 1) 0
+
+-- the rows from i up to r all hold a face
+abbrev pub AllHold : Table → ℕ → ℕ → Type 0
+AllHold arcs i r = (j : ℕ) → i ≤ j → j < r → holdsSome (getD arcs j []) ≡ true
+
+-- from row i on, r is reached over such rows
+abbrev pub HeldTo : Table → ℕ → ℕ → Type 0
+HeldTo arcs i r = (i ≤ r) × ((r ≤ length arcs) × AllHold arcs i r)

@@ -4,6 +4,7 @@
 
 use crate::blanks;
 use crate::edges;
+use crate::holders;
 use crate::keys;
 use crate::links;
 use rules::ArcRow;
@@ -18,7 +19,6 @@ ghost use lib.ListN.{length, take};
 ghost use lib.Ieee.{Float};
 ghost use Rattle.rules.specs.Table.{Table, count, used};
 ghost use Rattle.rules.specs.Mesh.{mesh};
-ghost use Rattle.proved.specs.Demand.{holdsSome};
 ghost use Rattle.sound.specs.Tests.{vertexTest, arcTest, edgeTest};
 ghost use Rattle.sound.specs.Names.{edgeName, keysRise};
 ghost use Rattle.sound.specs.Parts.{verticesSound, positionsSound, arcsSound, edgesSound, heldIf, usedIf};
@@ -119,18 +119,8 @@ fn plus(n: usize, so: bool) -> usize
     n
 }
 
-// Whether a row is an arc that holds a face.
-pub fn holds_some(row: ArcRow) -> bool
-    ensures { λ r. ⌜ r ≡ holdsSome row ⌝ }
-{
-    if row[0] == 0 {
-        return false;
-    }
-    row[4] != 0
-}
-
 // How many arcs hold a face, plus one, where every row passes and there are as many arcs as edges name; else 0. A row that holds a face
-// passes: it is on a ring (faces.rt).
+// passes: it is on a ring (faces.rt). Nearly all rows do, and a run of them is counted at once (holders.rt).
 pub fn arcs_held(arcs: &[ArcRow], named: usize) -> usize
     requires { ⌜ length (now arcs) ≤ 16384 ⌝ }
     ensures { λ r. ⌜ ((v : Table) (p : List (List Float)) (e f : Table) (k : List ℕ) → named ≡ 2 * count used e → r ≡ heldIf (arcsSound (mesh v p (now (arcs .entry)) e f k)) (now (arcs .entry))) ⌝ }
@@ -139,15 +129,17 @@ pub fn arcs_held(arcs: &[ArcRow], named: usize) -> usize
     let mut loose: usize = 0;
     let mut i = 0;
     while i < arcs.len() {
-        if holds_some(arcs[i]) {
-            held += 1;
+        if holders::holds_some(arcs[i]) {
+            let end = holders::skip_held(arcs, i + 1);
+            held += end - i;
+            i = end;
         } else {
             if !arc_row(arcs, arcs[i]) {
                 return 0;
             }
             loose = plus(loose, arcs[i][0] != 0);
+            i += 1;
         }
-        i += 1;
     }
     if held + loose != named {
         return 0;

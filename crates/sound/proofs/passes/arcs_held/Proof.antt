@@ -1,23 +1,25 @@
+-- `sound::passes::arcs_held` meets its contract. The loop keeps that every row gone through passes, and how many of them are arcs, and hold a
+-- face; laws of HeldRuns and Rows. Assumes nothing.
 use Prim.Native.Nat.{_+_, _-_, _≤_}
 use native.Mathlib.Omega.{arith}
 use mathlib.Core.Path.{_≡_, sym, _∙_}
-use mathlib.Core.Logic.{⊎-elim}
 use mathlib.Core.List.{[]}
 use lib.ListN.{length, getD}
 use borrow.Author.Tests.{not-true, not-false}
 use Rattle.rules.specs.Table.{used}
 use Rattle.rules.specs.Mesh.{mesh}
 use Rattle.proved.specs.Demand.{holdsSome}
-use Rattle.tables.proofs.Scans.{Counted, counted-all}
-use Rattle.names.proofs.Loops.{Passed, none-yet, one-more}
-use Rattle.sound.proofs.Rows.{arcs-fail, arcs-other, arcs-pass, holder-passes, one-first, one-second, one-up, counted-on}
+use Rattle.tables.proofs.Scans.{counted-none, counted-all}
+use Rattle.names.proofs.Loops.{none-yet, one-more}
+use Rattle.sound.proofs.Rows.{arcs-fail, arcs-other, arcs-pass, one-second, one-up, counted-on}
+use Rattle.sound.proofs.HeldRuns.{Told, told-run}
 use Rattle.sound.specs.Tests.{arcTest}
 use borrow.Author.Needs.{needs}
 use Rattle.sound.proofs.passes.arcs_held.Statement.{statement}
 use Rattle.sound.proofs.passes.arcs_held.Tie as tie
 
 abbrev Inv-loop : tie.InvT-loop
-Inv-loop arcs named held₀ loose₀ i₀ held loose i = (i ≤ length arcs) × ((held + loose ≤ i) × (Passed (λ j. arcTest arcs (getD arcs j [])) i × (Counted used arcs [] (held + loose) i × Counted holdsSome arcs [] held i)))
+Inv-loop arcs named held₀ loose₀ i₀ held loose i = (i ≤ length arcs) × ((held + loose ≤ i) × Told arcs (held + loose) held i)
 
 abbrev μ-loop : tie.MeasureT-loop
 μ-loop arcs named held₀ loose₀ i₀ held loose i = length arcs - i
@@ -34,8 +36,29 @@ shared-slice-copy-out-holds-some c = search needs
 holds-some-requires : tie.Need-holds-some-requires Inv-loop μ-loop
 holds-some-requires c κs = search needs
 
+add-skip-held : tie.Need-add-skip-held Inv-loop μ-loop
+add-skip-held c = search needs
+
+skip-held-requires : tie.Need-skip-held-requires Inv-loop μ-loop
+skip-held-requires c κs = search needs
+
+sub-held : tie.Need-sub-held Inv-loop μ-loop
+sub-held c = search needs
+
 add-held : tie.Need-add-held Inv-loop μ-loop
 add-held c = search needs
+
+loop-less : tie.Need-loop-less Inv-loop μ-loop
+loop-less c = search needs
+
+loop-again : tie.Need-loop-again Inv-loop μ-loop
+loop-again c =
+    let l = c .before .before .before .before .before in
+    let a = l .before .args in
+    let e = sym (c .before .before .holds-some .ensures) ∙ c .before .if1 .taken in
+    let s = c .skip-held in
+    let i = l .loop .inv in
+    (s .ensures .1 .0, (omega (arith, i .1 .0, s .ensures .0), told-run (a .arcs .now) (l .loop .held) (l .loop .loose) (l .loop .i) (s .result) e (s .ensures) (i .1 .1)))
 
 mul-arc-row : tie.Need-mul-arc-row Inv-loop μ-loop
 mul-arc-row c = search needs
@@ -67,32 +90,22 @@ plus-requires c κs = search needs
 add-i : tie.Need-add-i Inv-loop μ-loop
 add-i c = search needs
 
-loop-less : tie.Need-loop-less Inv-loop μ-loop
-loop-less c = search needs
+loop-less-2 : tie.Need-loop-less-2 Inv-loop μ-loop
+loop-less-2 c = search needs
 
-loop-again : tie.Need-loop-again Inv-loop μ-loop
-loop-again c =
-    let l = c .before .before .before .before in
+loop-again-2 : tie.Need-loop-again-2 Inv-loop μ-loop
+loop-again-2 c =
+    let l = c .before .before .before .before .before .before .before .before .before in
     let a = l .before .args in
-    let h = c .before .before .before .loop-test .taken in
+    let h = c .before .before .before .before .before .before .before .before .loop-test .taken in
     let i = l .loop .inv in
     let r = getD (a .arcs .now) (l .loop .i) [] in
-    let e = sym (c .before .holds-some .ensures) in
-    let on = one-more (λ j. arcTest (a .arcs .now) (getD (a .arcs .now) j [])) (l .loop .i) (i .1 .1 .0) in
-    let arcs-on = counted-on used (a .arcs .now) (l .loop .held + l .loop .loose) (l .loop .i) h (i .1 .1 .1 .0) (c .if1 .held + c .if1 .loose) in
-    let held-on = counted-on holdsSome (a .arcs .now) (l .loop .held) (l .loop .i) h (i .1 .1 .1 .1) (c .if1 .held) in
-    ⊎-elim
-    (λ w.
-    let eh : c .if1 .held ≡ l .loop .held + 1 = w .1 in
-    let el : c .if1 .loose ≡ l .loop .loose = w .2 in
-    let p = holder-passes (a .arcs .now) r (e ∙ w .0 .taken) in
-    (search needs, (omega (arith, eh, el, i .1 .0), (on (p .0), (arcs-on (rw (eh, el) (one-first (l .loop .held) (l .loop .loose) (used r) (p .1))), held-on (rw (e ∙ w .0 .taken) eh))))))
-    (λ w.
-    let eh : c .if1 .held ≡ l .loop .held = w .6 in
-    let el : c .if1 .loose ≡ w .5 .result = w .7 in
-    let up = one-second (l .loop .held) (l .loop .loose) (w .5 .result) (used r) (w .5 .ensures) in
-    (search needs, (one-up (used r) (l .loop .held + l .loop .loose) (l .loop .i) (c .if1 .held + c .if1 .loose) (i .1 .0) (rw (eh, el) up), (on (sym (w .2 .ensures) ∙ not-false _ (w .3 .left)), (arcs-on (rw (eh, el) up), held-on (rw (e ∙ w .0 .left) eh))))))
-    (c .if1 .came)
+    let e = sym (c .before .before .before .before .before .before .holds-some .ensures) ∙ c .before .before .before .before .before .if1 .left in
+    let up = one-second (l .loop .held) (l .loop .loose) (c .plus .result) (used r) (c .plus .ensures) in
+    let on = one-more (λ j. arcTest (a .arcs .now) (getD (a .arcs .now) j [])) (l .loop .i) (i .1 .1 .0) (sym (c .before .before .before .arc-row .ensures) ∙ not-false _ (c .before .before .if2 .left)) in
+    let arcs-on = counted-on used (a .arcs .now) (l .loop .held + l .loop .loose) (l .loop .i) h (i .1 .1 .1 .0) (l .loop .held + c .plus .result) up in
+    let held-on = counted-none holdsSome (a .arcs .now) [] (l .loop .held) (l .loop .i) h e (i .1 .1 .1 .1) in
+    (search needs, (one-up (used r) (l .loop .held + l .loop .loose) (l .loop .i) (l .loop .held + c .plus .result) (i .1 .0) up, (on, (arcs-on, held-on))))
 
 add-if3 : tie.Need-add-if3 Inv-loop μ-loop
 add-if3 c = search needs
@@ -123,7 +136,12 @@ arcs-held-spec =
     mul-holds-some
     shared-slice-copy-out-holds-some
     holds-some-requires
+    add-skip-held
+    skip-held-requires
+    sub-held
     add-held
+    loop-less
+    loop-again
     mul-arc-row
     shared-slice-copy-out-arc-row
     arc-row-requires
@@ -133,8 +151,8 @@ arcs-held-spec =
     index-2-plus
     plus-requires
     add-i
-    loop-less
-    loop-again
+    loop-less-2
+    loop-again-2
     add-if3
     returns-2
     add-result

@@ -1,0 +1,66 @@
+-- `sound::holders::block_holds` meets its contract. The loop keeps that, with all tests passed so far, every row gone through holds a face; laws
+-- of HeldRuns. Assumes nothing.
+use Prim.Native.Nat.{_+_, _-_, _≤_}
+use native.Mathlib.Omega.{arith}
+use mathlib.Core.Path.{_≡_}
+use mathlib.Core.Bool.{true}
+use Rattle.sound.specs.Parts.{AllHold}
+use Rattle.sound.proofs.HeldRuns.{no-rows, row-more}
+use borrow.Author.Needs.{needs}
+use Rattle.sound.proofs.holders.block_holds.Statement.{statement}
+use Rattle.sound.proofs.holders.block_holds.Tie as tie
+
+abbrev Inv-loop : tie.InvT-loop
+Inv-loop arcs i all₀ k₀ all k = (k ≤ 8) × (all ≡ true → AllHold arcs i (i + k))
+
+abbrev μ-loop : tie.MeasureT-loop
+μ-loop arcs i all₀ k₀ all k = 8 - k
+
+loop-holds : tie.Need-loop-holds Inv-loop μ-loop
+loop-holds c = let a = c .args in (search needs, λ e. no-rows (a .arcs .now) (a .i) (a .i + 0) (omega arith))
+
+add-holds-some : tie.Need-add-holds-some Inv-loop μ-loop
+add-holds-some c = search needs
+
+mul-holds-some : tie.Need-mul-holds-some Inv-loop μ-loop
+mul-holds-some c = search needs
+
+shared-slice-copy-out-holds-some : tie.Need-shared-slice-copy-out-holds-some Inv-loop μ-loop
+shared-slice-copy-out-holds-some c = search needs
+
+holds-some-requires : tie.Need-holds-some-requires Inv-loop μ-loop
+holds-some-requires c κs = search needs
+
+add-k : tie.Need-add-k Inv-loop μ-loop
+add-k c = search needs
+
+loop-less : tie.Need-loop-less Inv-loop μ-loop
+loop-less c = search needs
+
+loop-again : tie.Need-loop-again Inv-loop μ-loop
+loop-again c =
+    let l = c .before .before .before in
+    let a = l .before .args in
+    (search needs, row-more (a .arcs .now) (a .i) (l .loop .k) (l .loop .all) (c .holds-some .result) (c .holds-some .ensures) (l .loop .inv .1))
+
+returns : tie.Need-returns Inv-loop μ-loop
+returns c =
+    let l = c .before in
+    let eight : l .loop .k ≡ 8 = omega arith in
+    rw eight at (l .loop .inv .1)
+
+pub block-holds-spec : {M : Type 1} → statement M
+block-holds-spec =
+    tie.close
+    (tie.spec
+    Inv-loop
+    μ-loop
+    loop-holds
+    add-holds-some
+    mul-holds-some
+    shared-slice-copy-out-holds-some
+    holds-some-requires
+    add-k
+    loop-less
+    loop-again
+    returns)

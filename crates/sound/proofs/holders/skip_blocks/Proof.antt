@@ -1,0 +1,57 @@
+-- `sound::holders::skip_blocks` meets its contract. The loop keeps that every row gone through holds a face; laws of HeldRuns. Assumes nothing.
+use Prim.Native.Nat.{_+_, _-_}
+use lib.ListN.{length}
+use borrow.Author.Tests.{not-false}
+use Rattle.sound.specs.Parts.{HeldTo}
+use Rattle.sound.proofs.HeldRuns.{no-rows, join-runs}
+use borrow.Author.Needs.{needs}
+use Rattle.sound.proofs.holders.skip_blocks.Statement.{statement}
+use Rattle.sound.proofs.holders.skip_blocks.Tie as tie
+
+abbrev Inv-loop : tie.InvT-loop
+Inv-loop arcs from i₀ i = HeldTo arcs from i
+
+abbrev μ-loop : tie.MeasureT-loop
+μ-loop arcs from i₀ i = length arcs - i
+
+loop-holds : tie.Need-loop-holds Inv-loop μ-loop
+loop-holds c = let a = c .args in (search needs, (search needs, no-rows (a .arcs .now) (a .from) (a .from) (search needs)))
+
+sub-loop : tie.Need-sub-loop Inv-loop μ-loop
+sub-loop c = search needs
+
+block-holds-requires : tie.Need-block-holds-requires Inv-loop μ-loop
+block-holds-requires c κs = search needs
+
+returns : tie.Need-returns Inv-loop μ-loop
+returns c = c .before .before .before .loop .inv
+
+add-i : tie.Need-add-i Inv-loop μ-loop
+add-i c = search needs
+
+loop-less : tie.Need-loop-less Inv-loop μ-loop
+loop-less c = search needs
+
+loop-again : tie.Need-loop-again Inv-loop μ-loop
+loop-again c =
+    let l = c .before .before .before in
+    let a = l .before .args in
+    (search needs, (search needs, join-runs (a .arcs .now) (a .from) (l .loop .i) (l .loop .i + 8) (l .loop .inv .1 .1) (c .before .block-holds .ensures (not-false _ (c .if1 .left)))))
+
+returns-2 : tie.Need-returns-2 Inv-loop μ-loop
+returns-2 c = c .before .loop .inv
+
+pub skip-blocks-spec : {M : Type 1} → statement M
+skip-blocks-spec =
+    tie.close
+    (tie.spec
+    Inv-loop
+    μ-loop
+    loop-holds
+    sub-loop
+    block-holds-requires
+    returns
+    add-i
+    loop-less
+    loop-again
+    returns-2)

@@ -1,0 +1,22 @@
+-- `sound::holders::skip_held` meets its contract: one run of rows that hold a face follows the other; laws of HeldRuns. Assumes nothing.
+use native.Mathlib.Omega.{arith}
+use Rattle.sound.proofs.HeldRuns.{join-runs}
+use borrow.Author.Needs.{needs}
+use Rattle.sound.proofs.holders.skip_held.Statement.{statement}
+use Rattle.sound.proofs.holders.skip_held.Tie as tie
+
+skip-blocks-requires : tie.Need-skip-blocks-requires
+skip-blocks-requires c κs = search needs
+
+skip-rows-requires : tie.Need-skip-rows-requires
+skip-rows-requires c κs = search needs
+
+returns : tie.Need-returns
+returns c =
+    let b = c .before .skip-blocks in
+    let r = c .skip-rows in
+    let a = c .before .before .args in
+    (omega (arith, b .ensures .0, r .ensures .0), (r .ensures .1 .0, join-runs (a .arcs .now) (a .from) (b .result) (r .result) (b .ensures .1 .1) (r .ensures .1 .1)))
+
+pub skip-held-spec : {M : Type 1} → statement M
+skip-held-spec = tie.close (tie.spec skip-blocks-requires skip-rows-requires returns)
