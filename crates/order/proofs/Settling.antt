@@ -21,7 +21,6 @@ use Rattle.rules.specs.declared.Refusal.the-variants.{Tables, Argument, NoRoom,
 use Rattle.rules.specs.declared.Call.{Call}
 use Rattle.tables.specs.Sets.{over, setOver}
 use Rattle.tables.proofs.Lists.{over-same}
-use Rattle.since.specs.Changes.{rowsOver, Listed}
 use Rattle.rules.specs.declared.Edit.the-variants.{FaceInsert}
 use Rattle.checks.proofs.Pairs.{given-few}
 use Rattle.order.proofs.Deciding.{not-given}
@@ -44,12 +43,10 @@ unfolding setOver
 copied s d r z e =
     e ∙ (λ i. room (over-same (s .vertices) (d .vertices) (sym (z .vertices)) i) (over-same (s .positions) (d .positions) (sym (z .positions)) i) (over-same (s .arcs) (d .arcs) (sym (z .arcs)) i) (over-same (s .edges) (d .edges) (sym (z .edges)) i) (over-same (s .faces) (d .faces) (sym (z .faces)) i))
 
--- the same where of the arcs only the listed rows are copied
-pub copied-listed : (s d : Mesh) (list : List ℕ) (n : ℕ) (v : Table) (p : List (List Float)) (a e f : Table) → SameSize d s → Listed list n (d .arcs) (s .arcs) → n ≤ 512
-    → v ≡ over (s .vertices) (d .vertices) → p ≡ over (s .positions) (d .positions) → a ≡ rowsOver (take n list) (s .arcs) (d .arcs) → e ≡ over (s .edges) (d .edges) → f ≡ over (s .faces) (d .faces)
-    → room v p a e f ≡ roomOf s
-copied-listed s d list n v p a e f z l b hv hp ha he hf i =
-    room ((hv ∙ over-same (s .vertices) (d .vertices) (sym (z .vertices))) i) ((hp ∙ over-same (s .positions) (d .positions) (sym (z .positions))) i) ((ha ∙ l b) i) ((he ∙ over-same (s .edges) (d .edges) (sym (z .edges))) i) ((hf ∙ over-same (s .faces) (d .faces) (sym (z .faces))) i)
+-- the same where the arcs and the edges are already those of the set
+pub copied-back : (s d : Mesh) (v : Table) (p : List (List Float)) (a e f : Table) → SameSize d s → v ≡ over (s .vertices) (d .vertices) → p ≡ over (s .positions) (d .positions) → a ≡ s .arcs → e ≡ s .edges → f ≡ over (s .faces) (d .faces) → room v p a e f ≡ roomOf s
+copied-back s d v p a e f z hv hp ha he hf i =
+    room ((hv ∙ over-same (s .vertices) (d .vertices) (sym (z .vertices))) i) ((hp ∙ over-same (s .positions) (d .positions) (sym (z .positions))) i) (ha i) (he i) ((hf ∙ over-same (s .faces) (d .faces) (sym (z .faces))) i)
 
 -- a refused step leaves the mesh, an accepted one its own tables
 pub over-refused : (m : Mesh) (s : Step) → accepted (s .answer) ≡ false → left (s .answer) m ≡ T.over m s

@@ -1,5 +1,5 @@
-// The room copied back over the mesh: of the arcs only the rows that have changed, where they are listed. Document 01: "work in lent room,
-// copied over only when accepted".
+// The room copied back over the mesh: of the arcs and of the edges only the rows that have changed, where they are listed. Document 01: "work
+// in lent room, copied over only when accepted".
 
 use rules::ArcRow;
 use rules::EdgeRow;
@@ -11,11 +11,35 @@ use since::changes::CHANGED;
 use tables::sets;
 ghost use mathlib.Core.Path.{_≡_};
 ghost use mathlib.Core.List.{[]};
+ghost use lib.ListN.{length};
 ghost use Rattle.rules.specs.Mesh.{mesh, room};
 ghost use Rattle.since.specs.Changes.{Listed};
 ghost use Rattle.order.specs.Transaction.{SameSize};
 
-// The room is v, p, a, e, f; n arc rows are listed, or more than there are places.
+// One table, of which n rows are listed, or more than there are places.
+fn back6(to: &mut [ArcRow], from: &[ArcRow], changed: &[u32; CHANGED], n: usize)
+    requires { ⌜ (length (now to) ≡ length (now from)) × Listed (now changed) n (now to) (now from) ⌝ }
+    ensures { λ _. ⌜ now (to .exit) ≡ now (from .entry) ⌝ }
+{
+    if n > CHANGED {
+        sets::copy6(to, from);
+        return;
+    }
+    changes::copy_rows6(to, from, changed, n);
+}
+
+fn back3(to: &mut [EdgeRow], from: &[EdgeRow], changed: &[u32; CHANGED], n: usize)
+    requires { ⌜ (length (now to) ≡ length (now from)) × Listed (now changed) n (now to) (now from) ⌝ }
+    ensures { λ _. ⌜ now (to .exit) ≡ now (from .entry) ⌝ }
+{
+    if n > CHANGED {
+        sets::copy3(to, from);
+        return;
+    }
+    changes::copy_rows3(to, from, changed, n);
+}
+
+// The room is v, p, a, e, f; of the arcs n rows are listed, of the edges m.
 pub fn copy_back(
     vertices: &mut [VertexRow],
     positions: &mut [PositionRow],
@@ -27,20 +51,18 @@ pub fn copy_back(
     a: &[ArcRow],
     e: &[EdgeRow],
     f: &[FaceRow],
-    changed: &[u32; CHANGED],
+    changed_arcs: &[u32; CHANGED],
     n: usize,
+    changed_edges: &[u32; CHANGED],
+    m: usize,
 )
     requires { ⌜ SameSize (mesh (now vertices) (now positions) (now arcs) (now edges) (now faces) []) (mesh (now v) (now p) (now a) (now e) (now f) []) ⌝ }
-    requires { ⌜ Listed (now changed) n (now arcs) (now a) ⌝ }
+    requires { ⌜ Listed (now «changed_arcs») n (now arcs) (now a) × Listed (now «changed_edges») m (now edges) (now e) ⌝ }
     ensures { λ _. ⌜ room (now (vertices .exit)) (now (positions .exit)) (now (arcs .exit)) (now (edges .exit)) (now (faces .exit)) ≡ room (now (v .entry)) (now (p .entry)) (now (a .entry)) (now (e .entry)) (now (f .entry)) ⌝ }
 {
-    if n > CHANGED {
-        sets::copy_set(vertices, positions, arcs, edges, faces, v, p, a, e, f);
-        return;
-    }
     sets::copy2(vertices, v);
     sets::copy_positions(positions, p);
-    changes::copy_rows6(arcs, a, changed, n);
-    sets::copy3(edges, e);
+    back6(arcs, a, changed_arcs, n);
+    back3(edges, e, changed_edges, m);
     sets::copy3(faces, f);
 }

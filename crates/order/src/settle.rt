@@ -40,15 +40,17 @@ pub fn keeps_sound(edit: Edit) -> bool
     }
 }
 
-// What the work comes to, and how many arc rows are listed, all that have changed; or that the list says nothing.
+// What the work comes to, and how many rows of the arcs and of the edges are listed, all that have changed; or that a list says nothing.
 struct Verdict {
     answer: Answer,
-    listed: usize,
+    arcs: usize,
+    edges: usize,
 }
 
 // What the work told, or 8 where the tables that it leaves are not sound. Those from v to k are as they were, and sound.
 fn judged(
-    changed: &mut [u32; CHANGED],
+    changed_arcs: &mut [u32; CHANGED],
+    changed_edges: &mut [u32; CHANGED],
     v: &[VertexRow],
     p: &[PositionRow],
     a: &[ArcRow],
@@ -64,16 +66,18 @@ fn judged(
     told: Answer,
 ) -> Verdict
     requires { ⌜ sound (mesh (now v) (now p) (now a) (now e) (now f) (now k)) ≡ true ⌝ }
-    ensures { λ r. ⌜ (r .answer ≡ worked (step (mesh (now (vertices .entry)) (now (positions .entry)) (now (arcs .entry)) (now (edges .entry)) (now (faces .entry)) (now (counters .entry))) told) .answer) × Listed (now (changed .exit)) (r .listed) (now (a .entry)) (now (arcs .entry)) ⌝ }
+    ensures { λ r. ⌜ (r .answer ≡ worked (step (mesh (now (vertices .entry)) (now (positions .entry)) (now (arcs .entry)) (now (edges .entry)) (now (faces .entry)) (now (counters .entry))) told) .answer) × Listed (now («changed_arcs» .exit)) (r .arcs) (now (a .entry)) (now (arcs .entry)) × Listed (now («changed_edges» .exit)) (r .edges) (now (e .entry)) (now (edges .entry)) ⌝ }
 {
     if !answers::accepted(told) {
         return Verdict {
             answer: told,
-            listed: TOO_MANY,
+            arcs: TOO_MANY,
+            edges: TOO_MANY,
         };
     }
     let now = since::sound_since(
-        changed,
+        changed_arcs,
+        changed_edges,
         v,
         p,
         a,
@@ -90,12 +94,14 @@ fn judged(
     if now.sound {
         return Verdict {
             answer: told,
-            listed: now.listed,
+            arcs: now.arcs,
+            edges: now.edges,
         };
     }
     Verdict {
         answer: Answer::Refused(Refusal::WouldBreak),
-        listed: TOO_MANY,
+        arcs: TOO_MANY,
+        edges: TOO_MANY,
     }
 }
 
@@ -119,9 +125,11 @@ pub fn settle(
     requires { ⌜ SameSize (mesh (now vertices) (now positions) (now arcs) (now edges) (now faces) (now counters)) (mesh (now v) (now p) (now a) (now e) (now f) k) ⌝ }
     ensures { λ r. ⌜ left r (mesh (now (vertices .exit)) (now (positions .exit)) (now (arcs .exit)) (now (edges .exit)) (now (faces .exit)) (now (counters .exit))) ≡ over (mesh (now (vertices .entry)) (now (positions .entry)) (now (arcs .entry)) (now (edges .entry)) (now (faces .entry)) (now (counters .entry))) (worked (step (mesh (now (v .entry)) (now (p .entry)) (now (a .entry)) (now (e .entry)) (now (f .entry)) k) told)) ⌝ }
 {
-    let mut changed = [0u32; CHANGED];
+    let mut changed_arcs = [0u32; CHANGED];
+    let mut changed_edges = [0u32; CHANGED];
     let verdict = judged(
-        &mut changed,
+        &mut changed_arcs,
+        &mut changed_edges,
         vertices,
         positions,
         arcs,
@@ -151,8 +159,10 @@ pub fn settle(
         a,
         e,
         f,
-        &changed,
-        verdict.listed,
+        &changed_arcs,
+        verdict.arcs,
+        &changed_edges,
+        verdict.edges,
     );
     *counters = k;
     answer

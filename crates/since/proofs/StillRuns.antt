@@ -1,5 +1,6 @@
 -- For the loops over edges and faces: what is kept from row to row is kept over a run of rows that are as they were.
 use Prim.Native.Nat.{ℕ, _≤_}
+use native.Mathlib.Omega.{arith}
 use mathlib.Core.Path.{_≡_}
 use mathlib.Core.List.{List}
 use Rattle.rules.specs.Table.{Table, sumBelow}
@@ -10,6 +11,8 @@ use Rattle.since.specs.Changes.{SameRows}
 use Rattle.since.proofs.StillLoops.{edgePasses, edge-same, last-stays, links-stay, sum-stays}
 use Rattle.since.proofs.StillFaces.{gains, loses, face-same, gains-none, loses-none}
 use Rattle.pairs.proofs.Blocks.{over-run}
+use lib.ListN.{length}
+use Rattle.since.proofs.Listing.{ListedTo, listed-same}
 
 -- ---- edges: the last new first cell, the links of the new ones, and that all pass
 
@@ -21,6 +24,12 @@ module _ (old new arcs : Table) (from to last : ℕ) (links : List ℕ) where
   edges-run i r l s =
       over-run EdgesSoFar i r l
       (λ k a q f. (last-stays old new last k (f .0) (s k a q), (links-stay old new arcs from to links k (f .1 .0) (s k a q), one-more (edgePasses old new arcs from to) k (f .1 .1) (edge-same old new arcs from to k (s k a q)))))
+
+-- ---- the rows that are listed
+
+pub listed-run : (old new : Table) (list : List ℕ) (n i r : ℕ) → i ≤ r → r ≤ length new → length old ≡ length new → SameRows old new i r → ListedTo old new list n i → ListedTo old new list n r
+listed-run old new list n i r l b e s =
+    over-run (ListedTo old new list n) i r l (λ k a q f. listed-same old new list n k (omega (arith, e)) (omega arith) f (s k a q))
 
 -- ---- faces: the last new first cell, that all pass, and the two sums
 

@@ -1,6 +1,7 @@
 // The pairs: no new edge joins a pair that another edge joins. The new edges between two vertices that were there are looked for among the
 // arcs as they were, all in one pass; where there are more than 64, or more new edges than are listed, the test fails and all tables are tested.
 
+use crate::changes::CHANGED;
 use crate::edges as table;
 use crate::edges::NEW;
 use pairs::joined;
@@ -12,12 +13,13 @@ use tables::rows as cells;
 ghost use mathlib.Core.Path.{_≡_};
 ghost use mathlib.Core.Bool.{true, not, _&&_};
 ghost use mathlib.Core.List.{[], _∷_};
-ghost use Prim.Native.Nat.{_≤_};
+ghost use Prim.Native.Nat.{_-_, _≤_};
 ghost use lib.ListN.{length, getD, take};
 ghost use lib.Dec.{eqb};
 ghost use Rattle.rules.specs.Table.{there, allBelow};
 ghost use Rattle.rules.specs.Mesh.{mesh};
 ghost use Rattle.since.specs.Since.{newApart, edgesStill, pairsStill};
+ghost use Rattle.since.specs.Changes.{Listed};
 
 // How many new edges between old vertices are looked for: as many as a list has places.
 const INNER: usize = 64;
@@ -95,8 +97,9 @@ pub fn pairs_apart(
     joined::none_led(before, &from, &to, near)
 }
 
-// The edges and the pairs that they join.
+// The edges and the pairs that they join: one more than the number of edge rows listed, where all of it passes; else 0.
 pub fn edges_apart(
+    changed: &mut [u32; CHANGED],
     vertices: &[VertexRow],
     before: &[ArcRow],
     were: &[EdgeRow],
@@ -104,14 +107,17 @@ pub fn edges_apart(
     edges: &[EdgeRow],
     from: u32,
     to: u32,
-) -> bool
+) -> usize
     requires { ⌜ (length (now were) ≡ length (now edges)) × (length (now edges) ≤ 8192) ⌝ }
-    ensures { λ r. ⌜ (r ≡ true → (edgesStill (mesh (now (vertices .entry)) [] (now (before .entry)) (now (were .entry)) [] (0 ∷ from ∷ [])) (mesh [] [] (now (arcs .entry)) (now (edges .entry)) [] (0 ∷ to ∷ [])) ≡ true) × (pairsStill (mesh (now (vertices .entry)) [] (now (before .entry)) (now (were .entry)) [] (0 ∷ from ∷ [])) (mesh [] [] (now (arcs .entry)) (now (edges .entry)) [] (0 ∷ to ∷ [])) ≡ true)) ⌝ }
+    ensures { λ r. ⌜ ((r ≡ 0 → ⊥) → (edgesStill (mesh (now (vertices .entry)) [] (now (before .entry)) (now (were .entry)) [] (0 ∷ from ∷ [])) (mesh [] [] (now (arcs .entry)) (now (edges .entry)) [] (0 ∷ to ∷ [])) ≡ true) × (pairsStill (mesh (now (vertices .entry)) [] (now (before .entry)) (now (were .entry)) [] (0 ∷ from ∷ [])) (mesh [] [] (now (arcs .entry)) (now (edges .entry)) [] (0 ∷ to ∷ [])) ≡ true) × (r ≤ 129) × Listed (now (changed .exit)) (r - 1) (now (were .entry)) (now (edges .entry))) ⌝ }
 {
     let mut links = [0u32; NEW];
-    let n = table::edges_still(&mut links, were, edges, arcs, from, to);
+    let n = table::edges_still(&mut links, changed, were, edges, arcs, from, to);
     if n == 0 {
-        return false;
+        return 0;
     }
-    pairs_apart(vertices, before, arcs, edges, &links, n - 1)
+    if !pairs_apart(vertices, before, arcs, edges, &links, n - 1) {
+        return 0;
+    }
+    n
 }

@@ -1,6 +1,9 @@
-// The edges: a used row stays as it is, an unused one takes a new key or stays, and a new edge has both its arcs. The new ones are listed.
+// The edges: a used row stays as it is, an unused one takes a new key or stays, and a new edge has both its arcs. The new ones are listed: no
+// other row has changed.
 
 use crate::blocks;
+use crate::changes;
+use crate::changes::CHANGED;
 use crate::rows;
 use rules::ArcRow;
 use rules::EdgeRow;
@@ -14,6 +17,7 @@ ghost use lib.Dec.{eqb};
 ghost use Rattle.rules.specs.Table.{cell, allBelow};
 ghost use Rattle.sound.specs.Tests.{bothRow};
 ghost use Rattle.since.specs.Since.{rowAt, lastNew, edgeMade, edgeStill, newLinks};
+ghost use Rattle.since.specs.Changes.{Listed};
 
 // How many new edges are listed at most.
 pub const NEW: usize = 128;
@@ -77,10 +81,11 @@ fn known_places(links: [u32; NEW])
     ensures { λ _. ⌜ length links ≡ 128 ⌝ }
 {}
 
-// How many edges are new, plus one, where every row passes; else 0, or where there are too many. The list has their links. The counter was
-// `from` and is `to`.
+// How many edges are new, plus one, where every row passes; else 0, or where there are too many. The lists have their links and
+// their rows. The counter was `from` and is `to`.
 pub fn edges_still(
     links: &mut [u32; NEW],
+    changed: &mut [u32; CHANGED],
     before: &[EdgeRow],
     edges: &[EdgeRow],
     arcs: &[ArcRow],
@@ -88,7 +93,7 @@ pub fn edges_still(
     to: u32,
 ) -> usize
     requires { ⌜ (length (now before) ≡ length (now edges)) × (length (now edges) ≤ 8192) ⌝ }
-    ensures { λ r. ⌜ ((r ≡ 0 → ⊥) → (allBelow (λ i. edgeStill (now (arcs .entry)) from to (lastNew (now (before .entry)) (now (edges .entry)) i) (rowAt (now (before .entry)) i) (rowAt (now (edges .entry)) i) (i + 1)) (length (now (edges .entry))) ≡ true) × ((r ≤ 129) × (take (r - 1) (now (links .exit)) ≡ newLinks (now (before .entry)) (now (edges .entry)) (length (now (edges .entry)))))) ⌝ }
+    ensures { λ r. ⌜ ((r ≡ 0 → ⊥) → (allBelow (λ i. edgeStill (now (arcs .entry)) from to (lastNew (now (before .entry)) (now (edges .entry)) i) (rowAt (now (before .entry)) i) (rowAt (now (edges .entry)) i) (i + 1)) (length (now (edges .entry))) ≡ true) × ((r ≤ 129) × (take (r - 1) (now (links .exit)) ≡ newLinks (now (before .entry)) (now (edges .entry)) (length (now (edges .entry)))) × Listed (now (changed .exit)) (r - 1) (now (before .entry)) (now (edges .entry)))) ⌝ }
 {
     known_places(*links);
     let mut n: usize = 0;
@@ -103,7 +108,7 @@ pub fn edges_still(
                 return 0;
             }
             links[n] = i as u32 + 1;
-            n += 1;
+            n = changes::list_row(changed, n, i);
             last = edges[i][0];
         }
         i = blocks::skip3(before, edges, i + 1);

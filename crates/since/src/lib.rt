@@ -8,7 +8,7 @@ pub mod edges; // edges.rt: the edges, and a list of the new ones
 pub mod arcs; // arcs.rt: the arcs, and how many hold a face
 pub mod faces; // faces.rt: the faces, and the rings that have come and gone
 pub mod apart; // apart.rt: the pairs that new edges join
-pub mod changes; // changes.rt: the list of arc rows that have changed
+pub mod changes; // changes.rt: the list of rows that have changed
 
 use changes::CHANGED;
 use changes::TOO_MANY;
@@ -20,9 +20,9 @@ use rules::VertexRow;
 use sound::passes;
 use sound::queries;
 ghost use mathlib.Core.Path.{_≡_};
-ghost use mathlib.Core.Bool.{true};
+ghost use mathlib.Core.Bool.{true, false};
 ghost use mathlib.Core.List.{[]};
-ghost use Prim.Native.Nat.{_-_, _≤_};
+ghost use Prim.Native.Nat.{_≤_};
 ghost use lib.ListN.{length};
 ghost use Rattle.rules.specs.Mesh.{mesh};
 ghost use Rattle.rules.specs.Sound.{sound};
@@ -89,9 +89,29 @@ fn counters_up(k: &[u32; 3], counters: &[u32; 3]) -> bool
     k[2] <= counters[2]
 }
 
-// One more than the number of arc rows listed, where what has changed passes the test: then tables that were sound still are. Else 0.
+// Whether tables that were sound still are, and how many rows of the arcs and of the edges are listed, all that have changed; or that a list
+// says nothing.
+pub struct Told {
+    pub sound: bool,
+    pub arcs: usize,
+    pub edges: usize,
+}
+
+// What is told where the test fails.
+fn nothing_told() -> Told
+    ensures { λ r. ⌜ r .sound ≡ false ⌝ }
+{
+    Told {
+        sound: false,
+        arcs: TOO_MANY,
+        edges: TOO_MANY,
+    }
+}
+
+// Whether what has changed passes the test: then tables that were sound still are.
 pub fn still_sound(
-    changed: &mut [u32; CHANGED],
+    changed_arcs: &mut [u32; CHANGED],
+    changed_edges: &mut [u32; CHANGED],
     v: &[VertexRow],
     p: &[PositionRow],
     a: &[ArcRow],
@@ -104,26 +124,27 @@ pub fn still_sound(
     edges: &[EdgeRow],
     faces: &[FaceRow],
     counters: &[u32; 3],
-) -> usize
-    ensures { λ r. ⌜ ((r ≡ 0 → ⊥) → (stillSound (mesh (now (v .entry)) (now (p .entry)) (now (a .entry)) (now (e .entry)) (now (f .entry)) (now (k .entry))) (mesh (now (vertices .entry)) (now (positions .entry)) (now (arcs .entry)) (now (edges .entry)) (now (faces .entry)) (now (counters .entry))) ≡ true) × (r ≤ 514) × Listed (now (changed .exit)) (r - 1) (now (a .entry)) (now (arcs .entry))) ⌝ }
+) -> Told
+    ensures { λ r. ⌜ (r .sound ≡ true → (stillSound (mesh (now (v .entry)) (now (p .entry)) (now (a .entry)) (now (e .entry)) (now (f .entry)) (now (k .entry))) (mesh (now (vertices .entry)) (now (positions .entry)) (now (arcs .entry)) (now (edges .entry)) (now (faces .entry)) (now (counters .entry))) ≡ true) × Listed (now («changed_arcs» .exit)) (r .arcs) (now (a .entry)) (now (arcs .entry)) × Listed (now («changed_edges» .exit)) (r .edges) (now (e .entry)) (now (edges .entry))) ⌝ }
 {
     if !same_sizes(v, p, a, e, f, vertices, positions, arcs, edges, faces) {
-        return 0;
+        return nothing_told();
     }
     if !counters_up(k, counters) {
-        return 0;
+        return nothing_told();
     }
     if !vertices::vertices_still(v, vertices, arcs, k[0], counters[0]) {
-        return 0;
+        return nothing_told();
     }
     if !passes::positions_sound(vertices, positions) {
-        return 0;
+        return nothing_told();
     }
-    if !apart::edges_apart(v, a, e, arcs, edges, k[1], counters[1]) {
-        return 0;
+    let m = apart::edges_apart(changed_edges, v, a, e, arcs, edges, k[1], counters[1]);
+    if m == 0 {
+        return nothing_told();
     }
-    faces::rings_still(
-        changed,
+    let n = faces::rings_still(
+        changed_arcs,
         a,
         f,
         vertices,
@@ -132,18 +153,21 @@ pub fn still_sound(
         faces,
         k[2],
         counters[2],
-    )
-}
-
-// Whether tables that were sound still are, and how many arc rows are listed, all that have changed; or that the list says nothing.
-pub struct Told {
-    pub sound: bool,
-    pub listed: usize,
+    );
+    if n == 0 {
+        return nothing_told();
+    }
+    Told {
+        sound: true,
+        arcs: n - 1,
+        edges: m - 1,
+    }
 }
 
 // By what has changed where that tells it, else by all the tables.
 pub fn sound_since(
-    changed: &mut [u32; CHANGED],
+    changed_arcs: &mut [u32; CHANGED],
+    changed_edges: &mut [u32; CHANGED],
     v: &[VertexRow],
     p: &[PositionRow],
     a: &[ArcRow],
@@ -158,10 +182,11 @@ pub fn sound_since(
     counters: &[u32; 3],
 ) -> Told
     requires { ⌜ sound (mesh (now v) (now p) (now a) (now e) (now f) (now k)) ≡ true ⌝ }
-    ensures { λ r. ⌜ (r .sound ≡ sound (mesh (now (vertices .entry)) (now (positions .entry)) (now (arcs .entry)) (now (edges .entry)) (now (faces .entry)) (now (counters .entry)))) × Listed (now (changed .exit)) (r .listed) (now (a .entry)) (now (arcs .entry)) ⌝ }
+    ensures { λ r. ⌜ (r .sound ≡ sound (mesh (now (vertices .entry)) (now (positions .entry)) (now (arcs .entry)) (now (edges .entry)) (now (faces .entry)) (now (counters .entry)))) × Listed (now («changed_arcs» .exit)) (r .arcs) (now (a .entry)) (now (arcs .entry)) × Listed (now («changed_edges» .exit)) (r .edges) (now (e .entry)) (now (edges .entry)) ⌝ }
 {
-    let n = still_sound(
-        changed,
+    let told = still_sound(
+        changed_arcs,
+        changed_edges,
         v,
         p,
         a,
@@ -175,14 +200,12 @@ pub fn sound_since(
         faces,
         counters,
     );
-    if n != 0 {
-        return Told {
-            sound: true,
-            listed: n - 1,
-        };
+    if told.sound {
+        return told;
     }
     Told {
         sound: queries::is_sound(vertices, positions, arcs, edges, faces, counters),
-        listed: TOO_MANY,
+        arcs: TOO_MANY,
+        edges: TOO_MANY,
     }
 }

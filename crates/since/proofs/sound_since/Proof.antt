@@ -1,5 +1,5 @@
 use native.Mathlib.Omega.{arith}
-use mathlib.Core.Path.{sym}
+use mathlib.Core.Path.{sym, _∙_}
 use Rattle.proved.proofs.Rows.{T-true, true-T}
 use Rattle.since.proofs.Still.{still-sound}
 use borrow.Author.Needs.{needs}
@@ -9,26 +9,22 @@ use Rattle.since.proofs.sound_since.Tie as tie
 still-sound-requires : tie.Need-still-sound-requires
 still-sound-requires c κs = search needs
 
-sub-t17 : tie.Need-sub-t17
-sub-t17 c = search needs
-
 returns : tie.Need-returns
 returns c =
     let h = c .before .still-sound .ensures (c .if1 .taken) in
-    (sym (T-true _ (still-sound _ _ (true-T (c .before .before .before .pre)) (true-T (h .0)))), h .2)
+    (c .if1 .taken ∙ sym (T-true _ (still-sound _ _ (true-T (c .before .before .before .before .pre)) (true-T (h .0)))), h .1, h .2)
 
 is-sound-requires : tie.Need-is-sound-requires
 is-sound-requires c κs = search needs
 
 returns-2 : tie.Need-returns-2
-returns-2 c = (search needs, λ q. let z : ⊥ = omega arith in absurd z)
+returns-2 c = (search needs, (λ q. let z : ⊥ = omega arith in absurd z), λ q. let z : ⊥ = omega arith in absurd z)
 
 pub sound-since-spec : {M : Type 1} → statement M
 sound-since-spec =
     tie.close
     (tie.spec
     still-sound-requires
-    sub-t17
     returns
     is-sound-requires
     returns-2)

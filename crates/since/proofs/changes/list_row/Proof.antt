@@ -9,7 +9,7 @@ known-places-requires : tie.Need-known-places-requires
 known-places-requires c κs = search needs
 
 returns : tie.Need-returns
-returns c = (search needs, λ q. let z : ⊥ = omega arith in absurd z)
+returns c = (search needs, (λ q. let z : ⊥ = omega arith in absurd z), λ q. let z : ⊥ = omega arith in absurd z)
 
 cast-list : tie.Need-cast-list
 cast-list c = search needs
@@ -26,7 +26,7 @@ add-result c = search needs
 returns-2 : tie.Need-returns-2
 returns-2 c =
     let a = c .before .before .before .args in
-    (search needs, λ q. (omega arith, list-grows (a .list .now) _ (a .n) (a .i) (search needs) refl))
+    (search needs, (λ q. (omega arith, list-grows (a .list .now) _ (a .n) (a .i) (search needs) refl)), λ q. refl)
 
 pub list-row-spec : {M : Type 1} → statement M
 list-row-spec =
