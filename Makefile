@@ -1,10 +1,11 @@
 # make alone prints the targets.
 
-.PHONY: help test run compare lib archive examples rusttest bench
+.PHONY: help test wrong run compare lib archive examples rusttest bench
 
 help:
 	@echo 'make run      run meshrun on SCRIPT (default examples/q.script)'
-	@echo 'make test     prove every crate, try every must-fail edit, run every program'
+	@echo 'make test     prove every crate, try the must-fail edits, run every program'
+	@echo 'make wrong    prove every crate and try every must-fail edit, those too that make test leaves out (three quarters of an hour)'
 	@echo 'make lib      write target/lib/libullarvesp.a, for C and Rust on x86-64 to link (header: include/ullarvesp.h, crate: rust)'
 	@echo 'make examples build and run the examples in C and Rust, and compare what they print (needs cc, cargo)'
 	@echo 'make compare  run N random scripts (SEED) through meshdump and the Rust of plexus, and compare (needs cargo, python3)'
@@ -25,6 +26,13 @@ needs_cc = $(call needs,$(CC),Install a C compiler.)
 test:
 	@$(needs_rt)
 	@RT_JOBS=$${RT_JOBS:-5} exec rt ci
+
+# The edits under must-fail/more are of crates that take long to prove. rt tries what stands in must-fail alone, so a copy of the crates has all there.
+wrong:
+	@$(needs_rt)
+	@rm -rf target/wrong && mkdir -p target/wrong && cp -r crates crates.txt target/wrong/
+	@for edit in target/wrong/crates/*/must-fail/more/*.edit; do mv "$$edit" "$$(dirname "$$(dirname "$$edit")")"/ || exit 1; done
+	@cd target/wrong && RT_JOBS=$${RT_JOBS:-5} rt must-fail
 
 # ---- programs
 
