@@ -16,3 +16,4 @@ pub mod StillBlocks
 pub mod StillRuns
 pub mod Listing
 pub mod StillArcs
+pub mod Unbroken

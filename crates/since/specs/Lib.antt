@@ -1,3 +1,4 @@
 pub mod Whole
 pub mod Since
 pub mod Changes
+pub mod Broken

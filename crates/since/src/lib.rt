@@ -9,6 +9,7 @@ pub mod arcs; // arcs.rt: the arcs, and how many hold a face
 pub mod faces; // faces.rt: the faces, and the rings that have come and gone
 pub mod apart; // apart.rt: the pairs that new edges join
 pub mod changes; // changes.rt: the list of rows that have changed
+pub mod broken; // broken.rt: a ring that is broken
 
 use changes::CHANGED;
 use changes::TOO_MANY;
@@ -164,7 +165,7 @@ pub fn still_sound(
     }
 }
 
-// By what has changed where that tells it, else by all the tables.
+// By what has changed where that tells it: that they are, or that a ring is broken. Else by all the tables.
 pub fn sound_since(
     changed_arcs: &mut [u32; CHANGED],
     changed_edges: &mut [u32; CHANGED],
@@ -202,6 +203,13 @@ pub fn sound_since(
     );
     if told.sound {
         return told;
+    }
+    if broken::ring_broken(a, arcs) {
+        return Told {
+            sound: false,
+            arcs: TOO_MANY,
+            edges: TOO_MANY,
+        };
     }
     Told {
         sound: queries::is_sound(vertices, positions, arcs, edges, faces, counters),
