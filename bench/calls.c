@@ -1,4 +1,5 @@
-/* Times the calls by themselves, at the largest tables, nearly full: a cloth of 62 x 62 panels, four corners and two panels apart from it.
+/* Times the calls by themselves, at the largest tables, nearly full: a cloth of 62 x 62 panels, and apart from it four corners, two panels and a
+ * triangle poked until a poke would break the mesh.
  * Beside plexus (main.rs) each call finds its tables driven out of the near caches by plexus; here nothing runs between two calls but
  * putting the mesh back. Prints a table of lower quartiles of RUNS runs, in microseconds, and beside reading every cell once. */
 #include "ullarvesp.h"
@@ -98,6 +99,14 @@ static uint32_t panel(const uint32_t *corners) {
     return reply.key;
 }
 
+/* A triangle of its own, its panels poked one after the other as they came to be, up to one where the poke would break the mesh: its key. */
+static uint32_t would_break(void) {
+    uint32_t corners[3] = {corner(200, 0, 0), corner(201, 0, 0), corner(200, 1, 0)};
+    uint32_t next = ul_face_insert(UL_LENT(mesh), 7, corners, 3).key;
+    while (ul_face_poke(UL_LENT(mesh), next, 200, 0, 1).number == UL_DONE) next++;
+    return next;
+}
+
 int main(void) {
     mesh.tables = set(0);
     mesh.one = set(1);
@@ -112,6 +121,7 @@ int main(void) {
             panel(corners);
         }
     uint32_t below = panel(apart[1]), above = panel(apart[2]);
+    uint32_t broken = would_break();
     copy(3, 0);
     memcpy(counters, mesh.counters, sizeof counters);
     for (int i = 0; i < RUNS; i++) {
@@ -136,6 +146,7 @@ int main(void) {
     TIMED("face extrude, shift", ul_face_extrude_shift(UL_LENT(mesh), face, 1, 2, 3));
     TIMED("arc bridge", ul_arc_bridge(UL_LENT(mesh), apart[1][1], apart[1][0], apart[2][1], apart[2][0]));
     TIMED("arc extrude, shift", ul_arc_extrude_shift(UL_LENT(mesh), apart[1][1], apart[1][0], 1, 2, 3));
+    TIMED("face poke, would break", ul_face_poke(UL_LENT(mesh), broken, 200, 0, 1));
     TIMED("arity", ul_face_arity(UL_SET(mesh.tables), mesh.counters, face));
     TIMED("soundness check", ul_check_sound(UL_SET(mesh.tables), mesh.counters));
     return 0;
