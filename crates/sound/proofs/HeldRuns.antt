@@ -17,11 +17,11 @@ use Rattle.sound.specs.Tests.{arcTest}
 use Rattle.sound.specs.Parts.{AllHold, HeldTo}
 use Rattle.sound.proofs.Rows.{holder-passes}
 
-and-first : (a b : Bool) → (a && b) ≡ true → a ≡ true
+pub and-first : (a b : Bool) → (a && b) ≡ true → a ≡ true
 and-first true b e = refl
 and-first false b e = e
 
-and-second : (a b : Bool) → (a && b) ≡ true → b ≡ true
+pub and-second : (a b : Bool) → (a && b) ≡ true → b ≡ true
 and-second true b e = e
 and-second false b e = let z : ⊥ = subst T (sym e) tt in absurd z
 

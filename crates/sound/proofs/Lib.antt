@@ -1,5 +1,6 @@
 pub mod Rows
 pub mod HeldRuns
+pub mod Placing
 pub mod Named
 pub mod RingRows
 pub mod Counting

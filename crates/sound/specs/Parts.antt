@@ -1,14 +1,15 @@
 -- The clauses of Sound by the table that they go over, as the code tests them: what one pass over each table tells.
 use mathlib.Core.Path.{_≡_}
 use mathlib.Core.Bool.{Bool, true, not, cond, _&&_}
-use mathlib.Core.List.{[]}
+use mathlib.Core.List.{List, []}
 use lib.ListN.{length, getD}
 use lib.Dec.{eqb, ltb}
+use lib.Ieee.{Float}
 use Prim.Native.Nat.{ℕ, _+_, _*_, _≤_, _<_}
 use Rattle.rules.specs.Table.{Table, every, count, eachUsed, allBelow, there, used}
 use Rattle.rules.specs.Mesh.{Mesh, source, dest, edgeArc, nextKey, vertexKind, edgeKind, faceKind}
 use Rattle.proved.specs.Demand.{holdsSome}
-use Rattle.sound.specs.Tests.{looseRow}
+use Rattle.sound.specs.Tests.{looseRow, positionTest}
 use Rattle.rules.specs.Sound.{withinLimits, keysOf, bothArcs, leadsOut, unusedZero, positionsZero, allFinite}
 
 -- the keys of a table lie below a counter
@@ -63,3 +64,11 @@ AllHold arcs i r = (j : ℕ) → i ≤ j → j < r → holdsSome (getD arcs j []
 -- from row i on, r is reached over such rows
 abbrev pub HeldTo : Table → ℕ → ℕ → Type 0
 HeldTo arcs i r = (i ≤ r) × ((r ≤ length arcs) × AllHold arcs i r)
+
+-- the positions of the rows below i pass
+abbrev pub Placed : Table → List (List Float) → ℕ → Type 0
+Placed vertices positions i = allBelow (λ j. positionTest vertices (getD positions j []) (j + 1)) i ≡ true
+
+-- of n rows, r is reached over such rows
+abbrev pub PlacedTo : Table → List (List Float) → ℕ → ℕ → Type 0
+PlacedTo vertices positions n r = (r ≤ n) × Placed vertices positions r

@@ -2,12 +2,11 @@
 
 use rules::ArcRow;
 use rules::EdgeRow;
-use rules::Position;
 use rules::PositionRow;
 use rules::VertexRow;
 use tables::points;
 ghost use mathlib.Core.Path.{_≡_};
-ghost use mathlib.Core.Bool.{_||_};
+ghost use mathlib.Core.Bool.{_&&_, _||_};
 ghost use Prim.Native.Nat.{_+_};
 ghost use Rattle.rules.specs.Table.{there};
 ghost use Rattle.rules.specs.Point.{zeroPositionRow, finiteRow};
@@ -70,42 +69,26 @@ fn used_row(vertices: &[VertexRow], i: usize) -> bool
 fn zero_position(row: PositionRow) -> bool
     ensures { λ r. ⌜ r ≡ zeroPositionRow row ⌝ }
 {
-    if !points::zero_bits(row[0]) {
-        return false;
-    }
-    if !points::zero_bits(row[1]) {
-        return false;
-    }
-    points::zero_bits(row[2])
-}
-
-// The position in an unused vertex's row is zero too.
-fn blank_position(vertices: &[VertexRow], i: usize, row: PositionRow) -> bool
-    ensures { λ r. ⌜ r ≡ (there (now (vertices .entry)) (i + 1) || zeroPositionRow row) ⌝ }
-{
-    if used_row(vertices, i) {
-        return true;
-    }
-    zero_position(row)
+    points::zero_bits(row[0]) & (points::zero_bits(row[1]) & points::zero_bits(row[2]))
 }
 
 // Whether every coordinate of a position is finite.
-fn finite_row(row: PositionRow) -> bool
+pub fn finite_row(row: PositionRow) -> bool
     ensures { λ r. ⌜ r ≡ finiteRow row ⌝ }
 {
-    points::finite_position(Position {
-        x: row[0],
-        y: row[1],
-        z: row[2],
-    })
+    points::finite(row[0]) & (points::finite(row[1]) & points::finite(row[2]))
+}
+
+// The position in an unused vertex's row is zero too, and every coordinate is finite.
+pub fn place_row(used: bool, row: PositionRow) -> bool
+    ensures { λ r. ⌜ r ≡ ((used || zeroPositionRow row) && finiteRow row) ⌝ }
+{
+    (used | zero_position(row)) & finite_row(row)
 }
 
 // What document 01 asks of a position.
 pub fn position_row(vertices: &[VertexRow], i: usize, row: PositionRow) -> bool
     ensures { λ r. ⌜ r ≡ positionTest (now (vertices .entry)) row (i + 1) ⌝ }
 {
-    if !blank_position(vertices, i, row) {
-        return false;
-    }
-    finite_row(row)
+    place_row(used_row(vertices, i), row)
 }

@@ -7,6 +7,7 @@ pub mod edges; // edges.rt: each edge and its two arcs
 pub mod links; // links.rt: leading, next, previous and face of a record
 pub mod faces; // faces.rt: each face and its ring
 pub mod blanks; // blanks.rt: unused rows are zero, coordinates finite
+pub mod places; // places.rt: positions, by blocks of rows
 pub mod holders; // holders.rt: arcs that hold a face, by blocks of rows
 pub mod passes; // passes.rt: one pass over each table, all phrases on one row at once
 pub mod queries; // queries.rt: all of it, and the calls check_sound, check_finished, face_arity

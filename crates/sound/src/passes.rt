@@ -7,6 +7,7 @@ use crate::edges;
 use crate::holders;
 use crate::keys;
 use crate::links;
+use crate::places;
 use rules::ArcRow;
 use rules::EdgeRow;
 use rules::PositionRow;
@@ -98,7 +99,7 @@ pub fn vertices_sound(vertices: &[VertexRow], arcs: &[ArcRow], counters: &[u32; 
 pub fn positions_sound(vertices: &[VertexRow], positions: &[PositionRow]) -> bool
     ensures { λ r. ⌜ ((a e f : Table) (k : List ℕ) → r ≡ positionsSound (mesh (now (vertices .entry)) (now (positions .entry)) a e f k)) ⌝ }
 {
-    let mut i = 0;
+    let mut i = places::skip_placed(vertices, positions);
     while i < positions.len() {
         if !blanks::position_row(vertices, i, positions[i]) {
             return false;

@@ -5,7 +5,7 @@ use mathlib.Core.List.{[]}
 use lib.ListN.{length, getD}
 use borrow.Author.Tests.{not-true, not-false}
 use Rattle.rules.specs.Mesh.{mesh}
-use Rattle.names.proofs.Loops.{Passed, none-yet, one-more, all-passed, one-failed}
+use Rattle.names.proofs.Loops.{Passed, one-more, all-passed, one-failed}
 use Rattle.sound.proofs.Rows.{positions-rows}
 use Rattle.sound.specs.Tests.{positionTest}
 use borrow.Author.Needs.{needs}
@@ -18,8 +18,11 @@ Inv-loop vertices positions i₀ i = (i ≤ length positions) × Passed (λ j. p
 abbrev μ-loop : tie.MeasureT-loop
 μ-loop vertices positions i₀ i = length positions - i
 
+skip-placed-requires : tie.Need-skip-placed-requires Inv-loop μ-loop
+skip-placed-requires c κs = search needs
+
 loop-holds : tie.Need-loop-holds Inv-loop μ-loop
-loop-holds c = (search needs, none-yet (λ j. positionTest (c .args .vertices .now) (getD (c .args .positions .now) j []) (j + 1)))
+loop-holds c = c .skip-placed .ensures
 
 mul-position-row : tie.Need-mul-position-row Inv-loop μ-loop
 mul-position-row c = search needs
@@ -33,7 +36,7 @@ position-row-requires c κs = search needs
 returns : tie.Need-returns Inv-loop μ-loop
 returns c =
     let l = c .before .before .before .before in
-    let a = l .before .args in
+    let a = l .before .before .args in
     λ u e f k. one-failed (λ j. positionTest (a .vertices .now) (getD (a .positions .now) j []) (j + 1)) (length (a .positions .now)) (l .loop .i) (omega arith) (sym (c .before .position-row .ensures) ∙ not-true _ (c .if1 .taken)) ∙ sym (positions-rows (mesh (a .vertices .now) (a .positions .now) u e f k))
 
 add-i : tie.Need-add-i Inv-loop μ-loop
@@ -45,13 +48,13 @@ loop-less c = search needs
 loop-again : tie.Need-loop-again Inv-loop μ-loop
 loop-again c =
     let l = c .before .before .before .before in
-    let a = l .before .args in
+    let a = l .before .before .args in
     (search needs, one-more (λ j. positionTest (a .vertices .now) (getD (a .positions .now) j []) (j + 1)) (l .loop .i) (l .loop .inv .1) (sym (c .before .position-row .ensures) ∙ not-false _ (c .if1 .left)))
 
 returns-2 : tie.Need-returns-2 Inv-loop μ-loop
 returns-2 c =
     let l = c .before in
-    let a = l .before .args in
+    let a = l .before .before .args in
     λ u e f k. all-passed (λ j. positionTest (a .vertices .now) (getD (a .positions .now) j []) (j + 1)) (length (a .positions .now)) (l .loop .i) (omega arith) (omega arith) (l .loop .inv .1) ∙ sym (positions-rows (mesh (a .vertices .now) (a .positions .now) u e f k))
 
 pub positions-sound-spec : {M : Type 1} → statement M
@@ -60,6 +63,7 @@ positions-sound-spec =
     (tie.spec
     Inv-loop
     μ-loop
+    skip-placed-requires
     loop-holds
     mul-position-row
     shared-slice-copy-out-position-row
