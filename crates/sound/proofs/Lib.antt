@@ -6,6 +6,7 @@ pub mod RingRows
 pub mod Counting
 pub mod RingWalk
 pub mod RingLinked
+pub mod RingShort
 pub mod RingSums
 pub mod RingFull
 pub mod RingTell

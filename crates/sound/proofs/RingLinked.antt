@@ -1,11 +1,11 @@
 -- A ring walked once, each arc's row read once: what is known of the arcs passed, and what each way out of the walk tells of the ring.
-use Prim.Native.Nat.{ℕ, _+_, _-_, _≤_, _<_}
+use Prim.Native.Nat.{ℕ, zero, suc, _+_, _-_, _≤_, _<_}
 use native.Mathlib.Omega.{arith}
 use native.Mathlib.Decide.{ℕ-discrete, decLt}
 use mathlib.Core.Path.{_≡_, refl, ap, sym, subst, _∙_}
 use mathlib.Core.Bool.{Bool, true, false, not, cond, _&&_}
-use mathlib.Core.List.{List, []}
-use lib.ListN.{length, getD, set, length-set}
+use mathlib.Core.List.{List, [], _∷_}
+use lib.ListN.{length, getD, set, replicate, length-set}
 use lib.Seq.{getD-set-same, getD-set-other}
 use lib.Dec.{T, eqb, leb, eqb→eq, le→leb, leb→le}
 use lib.Ieee.Fits.{and-l, and-r, and-i}
@@ -13,7 +13,7 @@ use Rattle.rules.specs.Table.{Table, cell, there, used, every, allBelow}
 use Rattle.rules.specs.Mesh.{Mesh, source, dest, next, previous, face, faceArc}
 use Rattle.rules.specs.Link.{ring}
 use Rattle.rules.proofs.Sums.{all-at}
-use Rattle.proved.proofs.Rows.{T-false, true-T, same-T, differ, differ-T, all-from, cell-row, link-row, in-table, every-at}
+use Rattle.proved.proofs.Rows.{T-false, true-T, same-T, differ, differ-T, all-from, cell-none, cell-past, cell-row, link-row, in-table, every-at}
 use Rattle.sound.specs.Rings.{ringArc, ringRow, apart, ringWhole, ringLinked, ringLength, linkedLength}
 use Rattle.sound.proofs.RingWalk.{on, on-none, on-more, Away, away-none, away-more, Walked, place-on, whole-walked, longer, length-is, every-on, end-fails}
 
@@ -35,6 +35,20 @@ module _ (arcs : Table) (x w : ℕ) (e : w ≡ x) (h : (leb 1 x && leb x (length
   pub row-cell : (c : ℕ) → getD (getD arcs (w - 1) []) c 0 ≡ cell arcs x c
   row-cell c = sym (cell-row arcs (w - 1) c) ∙ ap (λ (y : ℕ). cell arcs y c) (link-row w index-some ∙ e)
 
+-- and one that it has not, where the code has six zeros
+zero-cell : (n c : ℕ) → getD {A = ℕ} (replicate n 0) c 0 ≡ 0
+zero-cell zero c = refl
+zero-cell (suc n) zero = refl
+zero-cell (suc n) (suc c) = zero-cell n c
+
+pub no-row : (arcs : Table) (x : ℕ) → (leb 1 x && leb x (length arcs)) ≡ false → (c : ℕ) → getD {A = ℕ} (0 ∷ 0 ∷ 0 ∷ 0 ∷ 0 ∷ 0 ∷ []) c 0 ≡ cell arcs x c
+no-row arcs x e c = zero-cell 6 c ∙ sym (go (decLt x 1) (decLt (length arcs) x))
+  where
+    go : Dec (x < 1) → Dec (length arcs < x) → cell arcs x c ≡ 0
+    go (yes l) d = let z : x ≡ 0 = omega arith in ap (λ (y : ℕ). cell arcs y c) z ∙ cell-none arcs c
+    go (no n) (yes l) = cell-past arcs x c l
+    go (no n) (no l) = absurd (subst T e (and-i (leb 1 x) (leb x (length arcs)) (le→leb 1 x (omega arith)) (le→leb x (length arcs) (omega arith))))
+
 -- ---- numbers that differ, by their places
 
 module _ (l : List ℕ) (n : ℕ) where
@@ -55,14 +69,6 @@ module _ (l : List ℕ) (n : ℕ) where
       go (yes q) d = q
       go (no q) (yes l) = absurd (later t j k l b e)
       go (no q) (no l) = absurd (later t k j (omega arith) a (sym e))
-
-pub apart-three : (l : List ℕ) → apart l 3 ≡ (allBelow (λ j. not (eqb (getD l j 0) (getD l 1 0))) 1 && allBelow (λ j. not (eqb (getD l j 0) (getD l 2 0))) 2)
-unfolding apart allBelow
-apart-three l = refl
-
-pub apart-four : (l : List ℕ) → apart l 4 ≡ (apart l 3 && allBelow (λ j. not (eqb (getD l j 0) (getD l 3 0))) 3)
-unfolding apart allBelow
-apart-four l = refl
 
 -- ---- the arcs passed
 

@@ -32,6 +32,26 @@ ringLinked m f = every (λ x. eqb (source m (next m x)) (dest m x)) (ring m f)
 unfoldable pub ringRow : List ℕ → ℕ → ℕ → ℕ → Bool
 ringRow r f before end = used r && (eqb (getD r 4 0) f && (eqb (getD r 3 0) before && eqb (getD r 0 0) end))
 
+-- three numbers differ
+abbrev pub threeApart : ℕ → ℕ → ℕ → Bool
+threeApart a b c = not (eqb a b) && (not (eqb a c) && not (eqb b c))
+
+-- the rows of three arcs on the ring of f, or of four: each comes after the one before, and p, which `first` names, after z
+unfoldable pub threeRows : List ℕ → List ℕ → List ℕ → ℕ → ℕ → Bool
+threeRows p q z f first =
+    ringRow p f (getD p 3 0) (getD z 1 0)
+    && (ringRow q f first (getD p 1 0)
+    && (ringRow z f (getD p 2 0) (getD q 1 0) && threeApart (getD p 0 0) (getD q 0 0) (getD z 0 0)))
+
+unfoldable pub fourRows : List ℕ → List ℕ → List ℕ → List ℕ → ℕ → ℕ → Bool
+fourRows p q r z f first =
+    ringRow p f (getD p 3 0) (getD z 1 0)
+    && (ringRow q f first (getD p 1 0)
+    && (ringRow r f (getD p 2 0) (getD q 1 0)
+    && (ringRow z f (getD q 2 0) (getD r 1 0)
+    && (threeApart (getD p 0 0) (getD q 0 0) (getD z 0 0)
+    && (not (eqb (getD p 0 0) (getD r 0 0)) && (not (eqb (getD q 0 0) (getD r 0 0)) && not (eqb (getD r 0 0) (getD z 0 0))))))))
+
 -- the first n numbers of a list differ
 unfoldable pub apart : List ℕ → ℕ → Bool
 apart l n = allBelow (λ i. allBelow (λ j. not (eqb (getD l j 0) (getD l i 0))) i) n

@@ -7,6 +7,7 @@ use crate::blanks;
 use crate::keys;
 use crate::links;
 use crate::passes;
+use crate::short;
 use rules::ArcRow;
 use rules::FaceRow;
 use rules::RING;
@@ -114,41 +115,14 @@ pub fn has_row(arcs: &[ArcRow], x: u32) -> bool
 }
 
 // An arc on the ring of f: it holds the face, and comes after the arc `before`, which ends at `end`.
-fn ring_row(row: ArcRow, f: usize, before: u32, end: u32) -> bool
+pub fn ring_row(row: ArcRow, f: usize, before: u32, end: u32) -> bool
     ensures { λ r. ⌜ r ≡ ringRow row f before end ⌝ }
 {
-    if row[0] == 0 {
-        return false;
-    }
-    if rows::wide(row[4]) != f {
-        return false;
-    }
-    if row[3] != before {
-        return false;
-    }
-    row[0] == end
+    (row[0] != 0) & ((rows::wide(row[4]) == f) & ((row[3] == before) & (row[0] == end)))
 }
 
-// Sources are distinct, the first three, the first four, or the first n: most rings have three arcs or four.
-fn three_apart(sources: &[u32; RING]) -> bool
-    ensures { λ r. ⌜ r ≡ apart (now (sources .entry)) 3 ⌝ }
-{
-    if !new_source(sources, 1, sources[1]) {
-        return false;
-    }
-    new_source(sources, 2, sources[2])
-}
-
-fn four_apart(sources: &[u32; RING]) -> bool
-    ensures { λ r. ⌜ r ≡ apart (now (sources .entry)) 4 ⌝ }
-{
-    if !three_apart(sources) {
-        return false;
-    }
-    new_source(sources, 3, sources[3])
-}
-
-fn all_apart(sources: &[u32; RING], n: usize) -> bool
+// Sources are distinct: the first n.
+fn sources_apart(sources: &[u32; RING], n: usize) -> bool
     requires { ⌜ n ≤ 64 ⌝ }
     ensures { λ r. ⌜ r ≡ apart (now (sources .entry)) n ⌝ }
 {
@@ -160,19 +134,6 @@ fn all_apart(sources: &[u32; RING], n: usize) -> bool
         i += 1;
     }
     true
-}
-
-fn sources_apart(sources: &[u32; RING], n: usize) -> bool
-    requires { ⌜ n ≤ 64 ⌝ }
-    ensures { λ r. ⌜ r ≡ apart (now (sources .entry)) n ⌝ }
-{
-    if n == 3 {
-        return three_apart(sources);
-    }
-    if n == 4 {
-        return four_apart(sources);
-    }
-    all_apart(sources, n)
 }
 
 // The walk is back: its last arc is the one before the first, and ends where the first leaves.
@@ -187,7 +148,7 @@ fn meets_first(before: u32, back: u32, end: u32, start: u32) -> bool
 
 // How many arcs the ring of a face has, where all that is asked of one ring holds and its arcs are linked; else 0. Each arc's row is
 // read once.
-fn linked_length(sources: &mut [u32; RING], arcs: &[ArcRow], first: u32, f: usize) -> usize
+fn walked_length(sources: &mut [u32; RING], arcs: &[ArcRow], first: u32, f: usize) -> usize
     ensures { λ r. ⌜ ((m : Mesh) → m .arcs ≡ now (arcs .entry) → faceArc m f ≡ first → r ≡ linkedLength m f) ⌝ }
 {
     known_places(*sources);
@@ -221,6 +182,17 @@ fn linked_length(sources: &mut [u32; RING], arcs: &[ArcRow], first: u32, f: usiz
         }
     }
     0
+}
+
+// The same, at once where the ring has three arcs or four (short.rt), as most have.
+fn linked_length(sources: &mut [u32; RING], arcs: &[ArcRow], first: u32, f: usize) -> usize
+    ensures { λ r. ⌜ ((m : Mesh) → m .arcs ≡ now (arcs .entry) → faceArc m f ≡ first → r ≡ linkedLength m f) ⌝ }
+{
+    let n = short::short_length(arcs, first, f);
+    if n != 0 {
+        return n;
+    }
+    walked_length(sources, arcs, first, f)
 }
 
 // ---- all faces

@@ -6,6 +6,7 @@ pub mod keys; // keys.rt: keys differ and lie below their counter
 pub mod edges; // edges.rt: each edge and its two arcs
 pub mod links; // links.rt: leading, next, previous and face of a record
 pub mod faces; // faces.rt: each face and its ring
+pub mod short; // short.rt: rings of three arcs and of four
 pub mod blanks; // blanks.rt: unused rows are zero, coordinates finite
 pub mod places; // places.rt: positions, by blocks of rows
 pub mod holders; // holders.rt: arcs that hold a face, by blocks of rows
