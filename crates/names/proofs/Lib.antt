@@ -1,4 +1,5 @@
 pub mod Loops
 pub mod Probing
+pub mod Seats
 pub mod Names
 pub mod Pairs

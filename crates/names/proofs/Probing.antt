@@ -1,12 +1,11 @@
 -- Slots lie in the table of slots, and one turn of a lookup.
-use Prim.Native.Nat.{ℕ, suc, _+_, _-_, _<_}
-use native.Mathlib.Omega.{arith}
+use Prim.Native.Nat.{ℕ, suc, _<_}
 use native.Mathlib.Nat.{mod-lt, zero-lt-suc}
-use mathlib.Core.Path.{_≡_, refl, ap, _∙_}
+use mathlib.Core.Path.{_≡_}
 use mathlib.Core.List.{List}
 use lib.ListN.{getD}
-use borrow.Author.Tests.{eq-eqb, ne-eqb, le-ltb}
-use Rattle.names.specs.Slots.{slotOf, slotAfter, nameOf, probe, lookIn}
+use borrow.Author.Tests.{eq-eqb, ne-eqb}
+use Rattle.names.specs.Slots.{slotOf, slotAfter, nameOf, probe}
 
 pub slot-of-below : (name : ℕ) → slotOf name < 16384
 unfolding slotOf
@@ -37,11 +36,3 @@ module _ (slots names : List ℕ) (name slot : ℕ) where
   pub probe-end : (left : ℕ) → left ≡ 0 → probe slots names name left slot ≡ 0
   unfolding probe
   probe-end left e = rw e
-
--- a row in the slot that its name gives is found there
-pub at-once : (slots names : List ℕ) (i : ℕ) → i < 8192 → getD slots (slotOf (getD names i 0)) 0 ≡ i + 1 → lookIn slots names (getD names i 0) ≡ i + 1
-unfolding lookIn nameOf
-at-once slots names i l e =
-    let k : i + 1 - 1 ≡ i = omega arith in
-    let n : nameOf names (i + 1) ≡ getD names i 0 = rw (ne-eqb (i + 1) 0 (λ z. omega arith), le-ltb 8192 (i + 1) (omega arith), k) in
-    probe-here slots names (getD names i 0) (slotOf (getD names i 0)) 128 127 refl (λ z. let y : ⊥ = omega (arith, e, z) in y) (ap (nameOf names) e ∙ n) ∙ e

@@ -2,9 +2,10 @@
 -- most 128 of them.
 -- All that a proof asks of it is that one name finds one row.
 use Prim.Native.Nat.{ℕ, zero, suc, _+_, _-_, _*_, _/_, _%_}
+use mathlib.Core.Path.{_≡_}
 use mathlib.Core.Bool.{Bool, not, cond, _||_}
 use mathlib.Core.List.{List}
-use lib.ListN.{getD}
+use lib.ListN.{getD, set}
 use lib.Dec.{eqb, ltb}
 
 unfoldable pub slotOf : ℕ → ℕ
@@ -31,6 +32,11 @@ lookIn slots names name = probe slots names name 128 (slotOf name)
 -- row i has no name, or its name finds it
 unfoldable pub finds : List ℕ → List ℕ → ℕ → Bool
 finds slots names i = eqb (getD names i 0) 0 || eqb (lookIn slots names (getD names i 0)) (i + 1)
+
+-- a free slot, where a row with the name would be found
+abbrev pub Seat : List ℕ → List ℕ → ℕ → ℕ → Type 0
+Seat slots names name s =
+    (getD slots s 0 ≡ 0) × ((v : ℕ) → (v ≡ 0 → ⊥) → nameOf names v ≡ name → lookIn (set slots s v) names name ≡ v)
 
 -- row i has no name, or its name finds itself, or no row of the first n, or one with another name
 unfoldable pub single : List ℕ → List ℕ → ℕ → ℕ → Bool

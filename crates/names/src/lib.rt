@@ -1,18 +1,19 @@
 // Whether the names in a list differ, where 0 is no name: the keys of a table plus one, or the pairs that its edges join.
 // It carries document 01's "keys in a table differ" and "no two edges join the same pair".
-// Names that rise from row to row differ. Else each name's row is put into a slot that the name gives, or into the next free one, and looked
-// up again: a row that its own name finds is the only one with that name, however the slots were filled, and a name that finds another row
-// stands twice. Where neither tells, names are compared one by one.
+// Names that rise from row to row differ. Else each name's row is put into the slot that the name gives, or into the next free one, where
+// the name finds it: a row that its own name finds is the only one with that name. Where a name finds another row first, or too many slots
+// are taken, a name that finds another row stands twice, however the slots were filled; where that does not tell, names are compared one
+// by one.
 
 ghost use mathlib.Core.Path.{_≡_};
-ghost use mathlib.Core.Bool.{not, _||_};
-ghost use Prim.Native.Nat.{_≤_, _<_, min};
-ghost use lib.ListN.{getD};
+ghost use mathlib.Core.Bool.{true, not, _||_};
+ghost use Prim.Native.Nat.{_+_, _≤_, _<_, min};
+ghost use lib.ListN.{length, getD};
 ghost use lib.Dec.{eqb, ltb};
 ghost use Rattle.rules.specs.Table.{allBelow, orElse};
 ghost use Rattle.names.specs.Names.{alone, differ, pairName};
 ghost use Rattle.names.specs.Rising.{rises};
-ghost use Rattle.names.specs.Slots.{slotOf, slotAfter, nameOf, lookIn, finds, single};
+ghost use Rattle.names.specs.Slots.{slotOf, slotAfter, nameOf, lookIn, finds, Seat, single};
 
 // The most rows that a list of names has: as many as the largest table with keys.
 pub const ROWS: usize = 8192;
@@ -102,36 +103,6 @@ fn name_of(names: &[u32; ROWS], row: u16) -> u32
     names[row as usize - 1]
 }
 
-// The first free slot from a name's own on, or any where none of those tried is free.
-fn free_slot(slots: &[u16; SLOTS], name: u32) -> usize
-    ensures { λ r. ⌜ r < 16384 ⌝ }
-{
-    let mut slot = slot_of(name);
-    let mut left = TRIES;
-    while left > 0 {
-        if slots[slot] == 0 {
-            return slot;
-        }
-        slot = slot_after(slot);
-        left -= 1;
-    }
-    slot
-}
-
-// Each name's row, plus one, in a slot. What stands in them is a guess: no statement rests on it.
-fn fill(slots: &mut [u16; SLOTS], names: &[u32; ROWS], n: usize)
-    requires { ⌜ n ≤ 8192 ⌝ }
-{
-    let mut i = 0;
-    while i < n {
-        if names[i] != 0 {
-            let slot = free_slot(slots, names[i]);
-            slots[slot] = (i + 1) as u16;
-        }
-        i += 1;
-    }
-}
-
 // The row, plus one, that a name finds from its own slot on, or 0.
 fn look(slots: &[u16; SLOTS], names: &[u32; ROWS], name: u32) -> u16
     ensures { λ r. ⌜ r ≡ lookIn (now (slots .entry)) (now (names .entry)) name ⌝ }
@@ -152,28 +123,52 @@ fn look(slots: &[u16; SLOTS], names: &[u32; ROWS], name: u32) -> u16
     0
 }
 
-// Whether a row has no name, or its name finds it: most often in the slot that the name gives.
-fn found(slots: &[u16; SLOTS], names: &[u32; ROWS], i: usize) -> bool
-    requires { ⌜ i < 8192 ⌝ }
-    ensures { λ r. ⌜ r ≡ finds (now (slots .entry)) (now (names .entry)) i ⌝ }
+// The first free slot from a name's own on: a row put there is found by that name. If a slot before it has a row with the name, or none of
+// those tried is free, there is none such, and it is SLOTS.
+fn seat(slots: &[u16], names: &[u32; ROWS], name: u32) -> usize
+    requires { ⌜ length (now slots) ≡ 16384 ⌝ }
+    ensures { λ r. ⌜ (r < 16384 → Seat (now (slots .entry)) (now (names .entry)) name r) ⌝ }
+{
+    let mut slot = slot_of(name);
+    let mut left = TRIES;
+    while left > 0 {
+        let row = slots[slot];
+        if row == 0 {
+            return slot;
+        }
+        if name_of(names, row) == name {
+            return SLOTS;
+        }
+        slot = slot_after(slot);
+        left -= 1;
+    }
+    SLOTS
+}
+
+// Puts a row, plus one, into a slot where its name finds it, if there is one. The rows before are still found.
+fn seated(slots: &mut [u16], names: &[u32; ROWS], i: usize) -> bool
+    requires { ⌜ (i < 8192) × (length (now slots) ≡ 16384) ⌝ }
+    ensures { λ r. ⌜ (r ≡ true → allBelow (finds (now (slots .entry)) (now (names .entry))) i ≡ true → allBelow (finds (now (slots .exit)) (now (names .entry))) (i + 1) ≡ true) ⌝ }
 {
     if names[i] == 0 {
         return true;
     }
-    if slots[slot_of(names[i])] == (i + 1) as u16 {
-        return true;
+    let slot = seat(slots, names, names[i]);
+    if slot >= SLOTS {
+        return false;
     }
-    look(slots, names, names[i]) == (i + 1) as u16
+    slots[slot] = (i + 1) as u16;
+    true
 }
 
-// Whether each name finds its own row.
-fn confirmed(slots: &[u16; SLOTS], names: &[u32; ROWS], n: usize) -> bool
-    requires { ⌜ n ≤ 8192 ⌝ }
-    ensures { λ r. ⌜ r ≡ allBelow (finds (now (slots .entry)) (now (names .entry))) n ⌝ }
+// Puts each row into a slot: whether each name then finds its own row.
+fn all_seated(slots: &mut [u16], names: &[u32; ROWS], n: usize) -> bool
+    requires { ⌜ (n ≤ 8192) × (length (now slots) ≡ 16384) ⌝ }
+    ensures { λ r. ⌜ (r ≡ true → allBelow (finds (now (slots .exit)) (now (names .entry))) n ≡ true) ⌝ }
 {
     let mut row = 0;
     while row < n {
-        if !found(slots, names, row) {
+        if !seated(slots, names, row) {
             return false;
         }
         row += 1;
@@ -270,8 +265,7 @@ pub fn names_differ(names: &[u32; ROWS], n: usize) -> bool
         return true;
     }
     let mut slots = [0u16; SLOTS];
-    fill(&mut slots, names, n);
-    if confirmed(&slots, names, n) {
+    if all_seated(&mut slots, names, n) {
         return true;
     }
     if !no_twin(&slots, names, n) {

@@ -18,23 +18,23 @@ returns-2 c =
     let a = c .before .before .before .args in
     λ h. shown (a .names .now) (a .n) (rising-differ (a .names .now) (a .n) (true-T (sym (c .before .rising .ensures) ∙ c .if2 .taken)))
 
-fill-requires : tie.Need-fill-requires
-fill-requires c κs = search needs
+slice-aggregate-all-seated : tie.Need-slice-aggregate-all-seated
+slice-aggregate-all-seated c = search needs
 
-confirmed-requires : tie.Need-confirmed-requires
-confirmed-requires c κs = search needs
+all-seated-requires : tie.Need-all-seated-requires
+all-seated-requires c κs = search needs
 
 returns-3 : tie.Need-returns-3
 returns-3 c =
-    let a = c .before .before .before .before .before .before .before .before .args in
-    λ h. shown (a .names .now) (a .n) (found-differ (a .names .now) (a .n) _ (true-T (sym (c .before .confirmed .ensures) ∙ c .if3 .taken)))
+    let a = c .before .before .before .before .before .before .before .args in
+    λ h. shown (a .names .now) (a .n) (found-differ (a .names .now) (a .n) _ (true-T (c .before .before .all-seated .ensures (c .if3 .taken))))
 
 no-twin-requires : tie.Need-no-twin-requires
 no-twin-requires c κs = search needs
 
 returns-4 : tie.Need-returns-4
 returns-4 c =
-    let a = c .before .before .before .before .before .before .before .before .before .before .before .args in
+    let a = c .before .before .before .before .before .before .before .before .before .before .args in
     λ h. twin-tells (a .names .now) (a .n) _ h (sym (c .before .no-twin .ensures) ∙ not-true _ (c .if4 .taken))
 
 compared-requires : tie.Need-compared-requires
@@ -50,8 +50,8 @@ names-differ-spec =
     returns
     rising-requires
     returns-2
-    fill-requires
-    confirmed-requires
+    slice-aggregate-all-seated
+    all-seated-requires
     returns-3
     no-twin-requires
     returns-4

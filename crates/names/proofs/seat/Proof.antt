@@ -1,0 +1,79 @@
+-- `names::seat` meets its contract. The loop keeps that, whatever is put into a free slot, the lookup of the name comes to the slot at hand; laws of
+-- Seats. Assumes nothing.
+use Prim.Native.Nat.{_<_, _-_}
+use native.Mathlib.Omega.{arith}
+use mathlib.Core.Path.{_≡_, _∙_}
+use Rattle.names.proofs.Probing.{slot-of-below, slot-after-below}
+use Rattle.names.proofs.Seats.{Reach, reach-start, reach-on, reach-seat}
+use borrow.Author.Needs.{needs}
+use Rattle.names.proofs.seat.Statement.{statement}
+use Rattle.names.proofs.seat.Tie as tie
+
+abbrev Inv-loop : tie.InvT-loop
+Inv-loop slots names name slot₀ left₀ slot left = (slot < 16384) × Reach slots names name left slot
+
+abbrev μ-loop : tie.MeasureT-loop
+μ-loop slots names name slot₀ left₀ slot left = left
+
+slot-of-requires : tie.Need-slot-of-requires Inv-loop μ-loop
+slot-of-requires c κs = search needs
+
+loop-holds : tie.Need-loop-holds Inv-loop μ-loop
+loop-holds c =
+    let a = c .before .before .args in
+    (rw (c .slot-of .ensures) (slot-of-below _), rw (c .slot-of .ensures) (reach-start (a .slots .now) (a .names .now) (a .name)))
+
+mul-row : tie.Need-mul-row Inv-loop μ-loop
+mul-row c = search needs
+
+shared-slice-read-row : tie.Need-shared-slice-read-row Inv-loop μ-loop
+shared-slice-read-row c = search needs
+
+returns : tie.Need-returns Inv-loop μ-loop
+returns c =
+    let l = c .before .before .before in
+    let a = l .before .before .before .args in
+    λ h. reach-seat (a .slots .now) (a .names .now) (a .name) (l .loop .left) (l .loop .left - 1) (l .loop .slot) (omega arith) (l .loop .inv .1) (omega (arith, h, l .before .before .before .pre)) (c .if1 .taken)
+
+name-of-requires : tie.Need-name-of-requires Inv-loop μ-loop
+name-of-requires c κs = search needs
+
+returns-2 : tie.Need-returns-2 Inv-loop μ-loop
+returns-2 c = λ h. let z : ⊥ = omega arith in absurd z
+
+slot-after-requires : tie.Need-slot-after-requires Inv-loop μ-loop
+slot-after-requires c κs = search needs
+
+sub-left : tie.Need-sub-left Inv-loop μ-loop
+sub-left c = search needs
+
+loop-less : tie.Need-loop-less Inv-loop μ-loop
+loop-less c = search needs
+
+loop-again : tie.Need-loop-again Inv-loop μ-loop
+loop-again c =
+    let l = c .before .before .before .before .before .before in
+    let a = l .before .before .before .args in
+    (rw (c .slot-after .ensures) (slot-after-below _), rw (c .slot-after .ensures) (reach-on (a .slots .now) (a .names .now) (a .name) (l .loop .left) (l .loop .left - 1) (l .loop .slot) (omega arith) (l .loop .inv .1) (c .before .before .before .if1 .left) (λ z. c .before .if2 .left (c .before .before .name-of .ensures ∙ z))))
+
+returns-3 : tie.Need-returns-3 Inv-loop μ-loop
+returns-3 c = λ h. let z : ⊥ = omega arith in absurd z
+
+pub seat-spec : {M : Type 1} → statement M
+seat-spec =
+    tie.close
+    (tie.spec
+    Inv-loop
+    μ-loop
+    slot-of-requires
+    loop-holds
+    mul-row
+    shared-slice-read-row
+    returns
+    name-of-requires
+    returns-2
+    slot-after-requires
+    sub-left
+    loop-less
+    loop-again
+    returns-3)
