@@ -12,7 +12,7 @@ use Rattle.rules.specs.Table.{Table, someBelow, firstRow, linkInto}
 use Rattle.rules.specs.Mesh.{joins, arcBetween, listOf}
 use Rattle.rules.proofs.Scan.{joins-no-source}
 use Rattle.tables.proofs.Scans.{Missed, into-none}
-use Rattle.pairs.specs.Pairs.{marksOf, NoMarks, runsAt, NoneLed}
+use Rattle.pairs.specs.Pairs.{markCount, marksOf, NoMarks, runsAt, NoneLed}
 use Rattle.pairs.proofs.Below.{some-none}
 use Rattle.pairs.proofs.Blocks.{over-run}
 use Rattle.pairs.proofs.Pass.{unmarked}
@@ -31,7 +31,7 @@ module _ (arcs : Table) (from to : List ℕ) (n : ℕ) where
   unled-start j q = below-none _
 
   -- a row whose source has no mark leads along none
-  unled-skip : (i : ℕ) → n ≤ length from → getD (marksOf (take n from)) (getD (getD arcs i []) 0 0 % 1024) false ≡ false → Unled i → Unled (i + 1)
+  unled-skip : (i : ℕ) → n ≤ length from → getD (marksOf (take n from)) (getD (getD arcs i []) 0 0 % markCount) false ≡ false → Unled i → Unled (i + 1)
   unled-skip i few absent u j q =
       below-more _ _ (u j q) (joins-no-source (getD from j 0) (getD to j 0) (getD arcs i []) (λ e. unmarked (take n from) (getD (getD arcs i []) 0 0) absent j (omega (arith, length-take-le n from few)) (e ∙ sym (getD-take n from j 0 q))))
 

@@ -27,31 +27,31 @@ module _ (l : List ℕ) where
   marked : ℕ → List Bool
   marked k = upTo (markAt l) k (replicate markCount false)
 
-  marked-length : (k : ℕ) → length (marked k) ≡ 1024
+  marked-length : (k : ℕ) → length (marked k) ≡ markCount
   unfolding upTo marked
-  marked-length zero = length-replicate {A = Bool} 1024 false
+  marked-length zero = length-replicate {A = Bool} markCount false
   marked-length (suc k) = length-set (marked k) (getD l k 0 % markCount) true ∙ marked-length k
 
-  marked-at : (k i : ℕ) → i < k → getD (marked k) (getD l i 0 % 1024) false ≡ true
+  marked-at : (k i : ℕ) → i < k → getD (marked k) (getD l i 0 % markCount) false ≡ true
   unfolding upTo marked
   marked-at zero i q = absurd (not-suc-le-zero q)
-  marked-at (suc k) i q = go (marked-at k i) (ℕ-discrete (getD l i 0 % 1024) (getD l k 0 % 1024))
+  marked-at (suc k) i q = go (marked-at k i) (ℕ-discrete (getD l i 0 % markCount) (getD l k 0 % markCount))
     where
-      go : (i < k → getD (marked k) (getD l i 0 % 1024) false ≡ true) → Dec (getD l i 0 % 1024 ≡ getD l k 0 % 1024) → getD (set (marked k) (getD l k 0 % 1024) true) (getD l i 0 % 1024) false ≡ true
-      go ih (yes e) = ap (λ (p : ℕ). getD (set (marked k) (getD l k 0 % 1024) true) p false) e ∙ getD-set-same (marked k) (getD l k 0 % 1024) true false (omega (arith, marked-length k))
+      go : (i < k → getD (marked k) (getD l i 0 % markCount) false ≡ true) → Dec (getD l i 0 % markCount ≡ getD l k 0 % markCount) → getD (set (marked k) (getD l k 0 % markCount) true) (getD l i 0 % markCount) false ≡ true
+      go ih (yes e) = ap (λ (p : ℕ). getD (set (marked k) (getD l k 0 % markCount) true) p false) e ∙ getD-set-same (marked k) (getD l k 0 % markCount) true false (omega (arith, marked-length k))
       go ih (no ne) =
-          let before : i ≡ k → ⊥ = λ e. ne (ap (λ (j : ℕ). getD l j 0 % 1024) e) in
-          getD-set-other (marked k) (getD l k 0 % 1024) (getD l i 0 % 1024) true false ne ∙ ih (omega arith)
+          let before : i ≡ k → ⊥ = λ e. ne (ap (λ (j : ℕ). getD l j 0 % markCount) e) in
+          getD-set-other (marked k) (getD l k 0 % markCount) (getD l i 0 % markCount) true false ne ∙ ih (omega arith)
 
-  pub marks-length : length (marksOf l) ≡ 1024
+  pub marks-length : length (marksOf l) ≡ markCount
   unfolding marksOf marked
   marks-length = marked-length (length l)
 
   -- a number with no mark at its remainder is not in the list
-  pub unmarked : (x : ℕ) → getD (marksOf l) (x % 1024) false ≡ false → (i : ℕ) → i < length l → x ≡ getD l i 0 → ⊥
+  pub unmarked : (x : ℕ) → getD (marksOf l) (x % markCount) false ≡ false → (i : ℕ) → i < length l → x ≡ getD l i 0 → ⊥
   unfolding marksOf marked
   unmarked x h i q e =
-      let is : getD (marked (length l)) (x % 1024) false ≡ true = ap (λ (y : ℕ). getD (marked (length l)) (y % 1024) false) e ∙ marked-at (length l) i q in
+      let is : getD (marked (length l)) (x % markCount) false ≡ true = ap (λ (y : ℕ). getD (marked (length l)) (y % markCount) false) e ∙ marked-at (length l) i q in
       let z : _≡_ {A = ℕ} 0 1 = ap (λ (b : Bool). cond b 1 0) (sym h ∙ is) in
       omega arith
 
@@ -224,7 +224,7 @@ module _ (arcs : Table) (per : List ℕ) where
   pass-start = record { size = length-replicate {A = ℕ} 64 0; told = λ i q. rw (zeros i) (told-start arcs (from per i) (to per i)); clear = λ i q. zeros i }
 
   -- a row whose source has no mark joins no pair
-  pass-skip : (k : ℕ) (at : List ℕ) → getD (marksOf per) (getD (getD arcs k []) 0 0 % 1024) false ≡ false → Passed k at → Passed (k + 1) at
+  pass-skip : (k : ℕ) (at : List ℕ) → getD (marksOf per) (getD (getD arcs k []) 0 0 % markCount) false ≡ false → Passed k at → Passed (k + 1) at
   pass-skip k at absent p = record {
     size = p .size;
     told = λ i q. told-skip arcs (from per i) (to per i) k (getD at i 0) (λ na. joins-no-source (from per i) (to per i) (getD arcs k []) (unmarked per (getD (getD arcs k []) 0 0) absent i q)) (p .told i q);

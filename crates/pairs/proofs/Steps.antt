@@ -17,7 +17,7 @@ use Rattle.pairs.specs.Pairs.{markCount, isPair, noteAt, sameTwo, meets}
 abbrev pub markAt : List ℕ → ℕ → List Bool → List Bool
 markAt l i seen = set seen (getD l i 0 % markCount) true
 
-pub marks-more : (l : List ℕ) (seen : List Bool) (i x y : ℕ) → x ≡ getD l i 0 → y ≡ x → seen ≡ upTo (markAt l) i (replicate markCount false) → set seen (y % 1024) true ≡ upTo (markAt l) (i + 1) (replicate markCount false)
+pub marks-more : (l : List ℕ) (seen : List Bool) (i x y : ℕ) → x ≡ getD l i 0 → y ≡ x → seen ≡ upTo (markAt l) i (replicate markCount false) → set seen (y % markCount) true ≡ upTo (markAt l) (i + 1) (replicate markCount false)
 marks-more l seen i x y ex ey h = rw (upTo-more, ← h, ey, ex)
 
 -- the array that holds a list, at a place of the list

@@ -23,7 +23,7 @@ arcsOf arcs per = listBelow (pairArc arcs per) (length per)
 
 -- marks at the remainders that the numbers of a list leave
 abbrev pub markCount : ℕ
-markCount = 1024
+markCount = 4096
 
 unfoldable pub marksOf : List ℕ → List Bool
 marksOf l = upTo (λ i seen. set seen (getD l i 0 % markCount) true) (length l) (replicate markCount false)

@@ -20,8 +20,8 @@ ghost use Rattle.pairs.specs.Pairs.{arcsOf, marksOf, noted, sameTwo, met
 // The largest table that has links to give.
 const ROW_LIMIT: usize = 16384;
 
-// How many remainders are told apart.
-const MARKS: usize = 1024;
+// How many remainders are told apart: as many as there are vertices.
+pub const MARKS: usize = 4096;
 
 // Which remainders the numbers of a list leave: a number with no mark at its own is not in the list.
 fn marks(list: Links) -> [bool; MARKS]
