@@ -4,4 +4,4 @@ pub mod Steps
 pub mod Listed
 pub mod Pass
 pub mod Led
-pub mod Near
+pub mod Filled
