@@ -25,7 +25,7 @@ filled-trans t n o f g = record {
 -- ---- the list
 
 -- a link of a used row is not 0
-some-link : (t : Table) (x : ℕ) → (cell t x 0 ≡ 0 → ⊥) → 1 ≤ x
+pub some-link : (t : Table) (x : ℕ) → (cell t x 0 ≡ 0 → ⊥) → 1 ≤ x
 unfolding cell
 some-link t x u = go (ℕ-discrete x 0)
   where

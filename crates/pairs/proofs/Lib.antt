@@ -5,3 +5,6 @@ pub mod Listed
 pub mod Pass
 pub mod Led
 pub mod Filled
+pub mod Has
+pub mod Listing
+pub mod Lookup

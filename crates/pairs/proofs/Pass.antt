@@ -133,7 +133,7 @@ module _ (per : List ℕ) (s d x : ℕ) where
 
 -- ---- one pair
 
-joined : (a b : ℕ) (r : List ℕ) → joins a b r ≡ true → getD r 0 0 ≡ a
+pub joined : (a b : ℕ) (r : List ℕ) → joins a b r ≡ true → getD r 0 0 ≡ a
 joined a b r h = go (eqb (getD r 0 0) a) refl h
   where
     go : (t : Bool) → eqb (getD r 0 0) a ≡ t → (t && eqb (getD r 1 0) b) ≡ true → getD r 0 0 ≡ a
@@ -149,11 +149,11 @@ module _ (arcs : Table) (a b : ℕ) where
     pub none : x ≡ 0 → (a ≡ 0 → ⊥) → Missed (joins a b) arcs [] k
     pub some : (x ≡ 0 → ⊥) → x ≡ arcBetween arcs a b
 
-  from-none : a ≡ 0 → 0 ≡ arcBetween arcs a b
+  pub from-none : a ≡ 0 → 0 ≡ arcBetween arcs a b
   unfolding arcBetween
   from-none z = rw (eq-eqb a 0 z)
 
-  from-some : (a ≡ 0 → ⊥) → linkInto arcs (firstRow (joins a b) arcs) ≡ arcBetween arcs a b
+  pub from-some : (a ≡ 0 → ⊥) → linkInto arcs (firstRow (joins a b) arcs) ≡ arcBetween arcs a b
   unfolding arcBetween
   from-some na = rw (ne-eqb a 0 na)
 
@@ -191,14 +191,14 @@ module _ (arcs : Table) (a b : ℕ) where
 
 -- ---- all pairs
 
-abbrev from : List ℕ → ℕ → ℕ
+abbrev pub from : List ℕ → ℕ → ℕ
 from per i = getD per i 0
 
-abbrev to : List ℕ → ℕ → ℕ
+abbrev pub to : List ℕ → ℕ → ℕ
 to per i = getD per (after (length per) i) 0
 
 -- the places as the code holds them, pair by pair
-places-told : (arcs : Table) (per at : List ℕ) (n : ℕ) → n ≡ length per → length per ≤ 64 → length at ≡ 64 → ((i : ℕ) → i < length per → getD at i 0 ≡ arcBetween arcs (from per i) (to per i)) → ((i : ℕ) → length per ≤ i → getD at i 0 ≡ 0) → record { at = at; len = n } ≡ linksOf (arcsOf arcs per)
+pub places-told : (arcs : Table) (per at : List ℕ) (n : ℕ) → n ≡ length per → length per ≤ 64 → length at ≡ 64 → ((i : ℕ) → i < length per → getD at i 0 ≡ arcBetween arcs (from per i) (to per i)) → ((i : ℕ) → length per ≤ i → getD at i 0 ≡ 0) → record { at = at; len = n } ≡ linksOf (arcsOf arcs per)
 unfolding linksOf pairArc
 places-told arcs per at n e few size is clear =
     let many : n ≡ length (arcsOf arcs per) = e ∙ sym (arcs-length arcs per) in
@@ -209,7 +209,7 @@ places-told arcs per at n e few size is clear =
     here i (yes q) = is i q ∙ sym (arcs-at arcs per i q)
     here i (no nq) = clear i (omega arith) ∙ sym (arcs-past arcs per i (omega arith))
 
-zeros : (i : ℕ) → _≡_ {A = ℕ} (getD (replicate 64 0) i 0) 0
+pub zeros : (i : ℕ) → _≡_ {A = ℕ} (getD (replicate 64 0) i 0) 0
 unfolding placesOf
 zeros i = place-is [] (omega arith) i
 

@@ -1,11 +1,12 @@
 -- Arcs near an edit, listed in one pass for all perimeters of that edit: those that leave a vertex with a mark, and the lowest unused rows, which
 -- the edit's new arcs take. The list stays true as arcs are made, as long as its last unused row, the spare one, is unused.
-use Prim.Native.Nat.{ℕ, _%_, _≤_}
+use Prim.Native.Nat.{ℕ, _+_, _%_, _≤_, _<_}
 use mathlib.Core.Path.{_≡_}
-use mathlib.Core.Bool.{Bool, true, false}
-use mathlib.Core.List.{List}
+use mathlib.Core.Bool.{Bool, true, false, _&&_}
+use mathlib.Core.List.{List, []}
 use lib.ListN.{length, getD}
-use Rattle.rules.specs.Table.{Table, cell, has}
+use lib.Dec.{eqb}
+use Rattle.rules.specs.Table.{Table, cell, has, unused, rowLimit}
 use Rattle.pairs.specs.Pairs.{markCount}
 
 -- a vertex has a mark
@@ -26,3 +27,46 @@ pub record FilledUp (t n : Table) : Type 0 where
   pub rows : length n ≡ length t
   pub stays : (x : ℕ) → (cell t x 0 ≡ 0 → ⊥) → cell n x 0 ≡ cell t x 0
   pub beyond : (s x : ℕ) → 1 ≤ s → s ≤ length t → cell n s 0 ≡ 0 → s ≤ x → cell n x 0 ≡ cell t x 0
+
+-- ---- the pass that lists them
+
+-- a row whose source is s may be passed by, with so many unused rows left to list
+abbrev pub Passable : List Bool → ℕ → ℕ → Type 0
+Passable seen left s = ((s ≡ 0 → ⊥) → isMarked seen s ≡ false) × ((left ≡ 0 → ⊥) → s ≡ 0 → ⊥)
+
+-- so may the rows from i up to r
+abbrev pub Onward : Table → List Bool → ℕ → ℕ → ℕ → Type 0
+Onward arcs seen left i r = (i ≤ r) × ((r ≤ length arcs) × ((j : ℕ) → i ≤ j → j < r → Passable seen left (getD (getD arcs j []) 0 0)))
+
+-- what stands in the list after i rows, with so many unused rows left to list: the used rows with a mark, and the unused rows up to the spare one,
+-- or all of them while some are left; no row before the first is unused
+pub record ListedTo (arcs : Table) (seen : List Bool) (list : List ℕ) (i spare first left : ℕ) : Type 0 where
+  pub leaving : (j : ℕ) → j < i → (getD (getD arcs j []) 0 0 ≡ 0 → ⊥) → isMarked seen (getD (getD arcs j []) 0 0) ≡ true → has list (j + 1) ≡ true
+  pub free : (j : ℕ) → j < i → (left ≡ 0 → j < spare) → getD (getD arcs j []) 0 0 ≡ 0 → has list (j + 1) ≡ true
+  pub reached : spare ≤ i
+  pub before : (j : ℕ) → j + 1 < first → unused (getD arcs j []) ≡ false
+  pub none : first ≡ 0 → (left ≡ 0 → ⊥) → (j : ℕ) → j < i → unused (getD arcs j []) ≡ false
+
+-- ---- the lookup
+
+-- the list tells where its spare row is there and unused
+pub record Tells (arcs : Table) (len spare : ℕ) : Type 0 where
+  pub some : 1 ≤ spare
+  pub within : spare ≤ length arcs
+  pub free : cell arcs spare 0 ≡ 0
+  pub fits : length arcs ≤ rowLimit
+  pub few : len ≤ 512
+
+-- every arc that leaves a is listed
+abbrev pub AllFrom : Table → List ℕ → ℕ → Type 0
+AllFrom arcs list a = (x : ℕ) → x ≤ length arcs → (a ≡ 0 → ⊥) → cell arcs x 0 ≡ a → has list x ≡ true
+
+-- x names an arc from a to b
+abbrev pub leads : Table → ℕ → ℕ → ℕ → Bool
+leads arcs a b x = eqb (cell arcs x 0) a && eqb (cell arcs x 1) b
+
+-- m is the least such link in the list, or 0 where there is none
+pub record Least (arcs : Table) (a b : ℕ) (list : List ℕ) (m : ℕ) : Type 0 where
+  pub is : (m ≡ 0 → ⊥) → leads arcs a b m ≡ true
+  pub some : (x : ℕ) → has list x ≡ true → leads arcs a b x ≡ true → m ≡ 0 → ⊥
+  pub low : (x : ℕ) → has list x ≡ true → leads arcs a b x ≡ true → m ≤ x

@@ -4,6 +4,7 @@
 
 pub mod joined; // joined.rt: that no arc leads along any of a list of pairs
 mod marked; // marked.rt: blocks of rows without a mark
+pub mod near; // near.rt: arcs near an edit, listed in one pass for all its perimeters
 
 use rules::ArcRow;
 use rules::Links;

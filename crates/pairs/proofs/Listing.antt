@@ -1,0 +1,111 @@
+-- One pass lists the arcs near an edit: what stands in the list after so many rows, row by row, and at its end.
+use Prim.Native.Nat.{ℕ, _+_, _-_, _%_, _≤_, _<_}
+use native.Mathlib.Omega.{arith}
+use native.Mathlib.Decide.{ℕ-discrete}
+use borrow.Author.Count.{below-none, below-more}
+use borrow.Author.Tests.{eq-eqb, ne-eqb}
+use mathlib.Core.Path.{_≡_, refl, ap, sym, _∙_, subst}
+use mathlib.Core.Bool.{Bool, true, false, cond}
+use mathlib.Core.List.{List, [], _∷_, _++_}
+use lib.ListN.{length, getD, set}
+use lib.Seq.{getD-set-same, getD-set-other}
+use Rattle.rules.specs.Table.{Table, cell, has, unused, orElse}
+use Rattle.pairs.specs.Pairs.{markCount, NoMarks}
+use Rattle.pairs.specs.Near.{isMarked, Listing, Near, Passable, Onward, ListedTo}
+use Rattle.pairs.proofs.Blocks.{over-run}
+use Rattle.pairs.proofs.Filled.{some-link}
+use Rattle.pairs.proofs.Has.{has-last, has-left}
+
+pub both : true ≡ false → ⊥
+both e = let z : _≡_ {A = ℕ} 0 1 = ap (λ (b : Bool). cond b 0 1) e in omega arith
+
+-- ---- rows passed by
+
+-- with a mark for none too, a row without a mark has none in the marks either, and is used
+none-marked : (seen : List Bool) (s : ℕ) → 0 < length seen → isMarked (set seen 0 true) s ≡ false → (isMarked seen s ≡ false) × (s % markCount ≡ 0 → ⊥)
+none-marked seen s some h = (sym (getD-set-other seen 0 (s % markCount) true false other) ∙ h, other)
+  where
+    other : s % markCount ≡ 0 → ⊥
+    other z = both (sym (getD-set-same seen 0 true false some) ∙ ap (λ (p : ℕ). getD (set seen 0 true) p false) (sym z) ∙ h)
+
+module _ (arcs : Table) (seen : List Bool) (left i r : ℕ) where
+  pub onward-last : left ≡ 0 → NoMarks arcs seen i r → (j : ℕ) → i ≤ j → j < r → Passable seen left (getD (getD arcs j []) 0 0)
+  onward-last z h j a b = (λ u. h j a b, λ nz. absurd (nz z))
+
+  pub onward-more : (marks : List Bool) → 0 < length seen → marks ≡ set seen 0 true → NoMarks arcs marks i r → (j : ℕ) → i ≤ j → j < r → Passable seen left (getD (getD arcs j []) 0 0)
+  onward-more marks some em h j a b =
+      let no = none-marked seen (getD (getD arcs j []) 0 0) some (rw (← em) (h j a b)) in
+      (λ u. no .0, λ nz z. no .1 (rw z))
+
+-- ---- one row
+
+module _ (arcs : Table) (seen : List Bool) where
+  pub listed-start : (left : ℕ) → ListedTo arcs seen [] 0 0 0 left
+  listed-start left = record { leaving = below-none _; free = below-none _; reached = omega arith; before = λ j q. absurd (omega arith); none = λ z nz. below-none _ }
+
+  module _ (list : List ℕ) (i spare first left : ℕ) (h : ListedTo arcs seen list i spare first left) where
+    abbrev at : ℕ
+    at = getD (getD arcs i []) 0 0
+
+    pub listed-skip : Passable seen left at → ListedTo arcs seen list (i + 1) spare first left
+    listed-skip p = record {
+      leaving = below-more _ i (h .leaving) (λ u m. absurd (both (sym m ∙ p .0 u)));
+      free = below-more _ i (h .free) (λ q z. absurd (p .1 (λ l. omega (arith, q l, h .reached)) z));
+      reached = omega (arith, h .reached);
+      before = h .before;
+      none = λ z nz. below-more _ i (h .none z nz) (ne-eqb at 0 (p .1 nz));
+    }
+
+    pub listed-used : (at ≡ 0 → ⊥) → ListedTo arcs seen (list ++ ((i + 1) ∷ [])) (i + 1) spare first left
+    listed-used u = record {
+      leaving = below-more _ i (λ j q v m. has-left list (i + 1) (j + 1) (h .leaving j q v m)) (λ v m. has-last list (i + 1));
+      free = below-more _ i (λ j q b z. has-left list (i + 1) (j + 1) (h .free j q b z)) (λ b z. absurd (u z));
+      reached = omega (arith, h .reached);
+      before = h .before;
+      none = λ z nz. below-more _ i (h .none z nz) (ne-eqb at 0 u);
+    }
+
+    pub listed-unused : at ≡ 0 → (left ≡ 0 → ⊥) → (x f : ℕ) → x ≡ i + 1 → f ≡ orElse first x → ListedTo arcs seen (list ++ (x ∷ [])) (i + 1) x f (left - 1)
+    listed-unused z nz x f ex ef = rw (ef, ex) (record {
+      leaving = below-more _ i (λ j q v m. has-left list (i + 1) (j + 1) (h .leaving j q v m)) (λ v m. absurd (v z));
+      free = below-more _ i (λ j q b y. has-left list (i + 1) (j + 1) (h .free j q (λ e. absurd (nz e)) y)) (λ b y. has-last list (i + 1));
+      reached = omega arith;
+      before = go (ℕ-discrete first 0);
+      none = λ e. absurd (later e (ℕ-discrete first 0));
+    })
+      where
+        go : Dec (first ≡ 0) → (j : ℕ) → j + 1 < orElse first (i + 1) → unused (getD arcs j []) ≡ false
+        go (yes e) = rw (eq-eqb first 0 e) (λ j q. h .none e nz j (omega arith))
+        go (no ne) = rw (ne-eqb first 0 ne) (h .before)
+
+        later : orElse first (i + 1) ≡ 0 → Dec (first ≡ 0) → ⊥
+        later e (yes q) = let y : i + 1 ≡ 0 = rw (eq-eqb first 0 q) at e in omega arith
+        later e (no q) = q (rw (ne-eqb first 0 q) at e)
+
+  -- ---- many rows, and all
+
+  pub listed-run : (list : List ℕ) (i r spare first left : ℕ) → Onward arcs seen left i r → ListedTo arcs seen list i spare first left → ListedTo arcs seen list r spare first left
+  listed-run list i r spare first left o = over-run (λ (j : ℕ). ListedTo arcs seen list j spare first left) i r (o .0) (λ j a b h. listed-skip list j spare first left h (o .1 .1 j a b))
+
+  -- the row that a link names
+  named : (x : ℕ) → 1 ≤ x → cell arcs x 0 ≡ getD (getD arcs (x - 1) []) 0 0
+  unfolding cell
+  named x l = rw (ne-eqb x 0 (λ e. omega arith))
+
+  pub listed-end : (list : List ℕ) (i spare first left : ℕ) → length arcs ≤ i → ListedTo arcs seen list i spare first left → Near arcs seen list spare
+  listed-end list i spare first left all h one on e = record { leaving = leaving; free = free }
+    where
+      back : (x : ℕ) → 1 ≤ x → has list (x - 1 + 1) ≡ true → has list x ≡ true
+      back x l q = let w : x - 1 + 1 ≡ x = omega arith in rw w at q
+
+      leaving : (x : ℕ) → x ≤ length arcs → (cell arcs x 0 ≡ 0 → ⊥) → isMarked seen (cell arcs x 0) ≡ true → has list x ≡ true
+      leaving x l u m =
+          let s = some-link arcs x u in
+          back x s (h .leaving (x - 1) (omega (arith, s)) (λ z. u (named x s ∙ z)) (subst (λ (v : ℕ). isMarked seen v ≡ true) (named x s) m))
+
+      free : (x : ℕ) → 1 ≤ x → x ≤ spare → cell arcs x 0 ≡ 0 → has list x ≡ true
+      free x s l z = back x s (h .free (x - 1) (omega (arith, h .reached)) (λ e. omega arith) (sym (named x s) ∙ z))
+
+  -- without a spare row nothing is said
+  pub near-nothing : (list : List ℕ) → Near arcs seen list 0
+  near-nothing list one on e = absurd (omega arith)

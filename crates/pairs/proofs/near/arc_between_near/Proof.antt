@@ -1,0 +1,47 @@
+-- `pairs::near::arc_between_near` meets its contract: the list tells, or a pass does; laws of Lookup. Assumes nothing.
+use mathlib.Core.Path.{_≡_}
+use mathlib.Core.Bool.{true}
+use lib.ListN.{take}
+use Rattle.pairs.specs.Near.{isMarked}
+use Rattle.pairs.proofs.Lookup.{all-from}
+use borrow.Author.Needs.{needs}
+use Rattle.pairs.proofs.near.arc_between_near.Statement.{statement}
+use Rattle.pairs.proofs.near.arc_between_near.Tie as tie
+
+tells-requires : tie.Need-tells-requires
+tells-requires c κs = search needs
+
+wide-requires : tie.Need-wide-requires
+wide-requires c κs = search needs
+
+element-copy-out-if2 : tie.Need-element-copy-out-if2
+element-copy-out-if2 c = search needs
+
+arc-listed-requires : tie.Need-arc-listed-requires
+arc-listed-requires c κs =
+    let s = c .before .before .before .before .before in
+    let a = s .args in
+    let t = c .before .before .before .before .tells .ensures (c .before .before .before .if1 .taken) in
+    let is : isMarked (a .seen .now) (a .a) ≡ true = rw (← c .before .before .wide .ensures) (c .if2 .taken) in
+    (t .few, (t .fits, all-from (a .arcs .now) (a .seen .now) (take (a .by .len) (a .near .now)) (a .by .spare) (a .a) (s .pre (t .some) (t .within) (t .free)) is))
+
+returns : tie.Need-returns
+returns c = search needs
+
+find-arc-requires : tie.Need-find-arc-requires
+find-arc-requires c κs = search needs
+
+returns-2 : tie.Need-returns-2
+returns-2 c = search needs
+
+pub arc-between-near-spec : {M : Type 1} → statement M
+arc-between-near-spec =
+    tie.close
+    (tie.spec
+    tells-requires
+    wide-requires
+    element-copy-out-if2
+    arc-listed-requires
+    returns
+    find-arc-requires
+    returns-2)

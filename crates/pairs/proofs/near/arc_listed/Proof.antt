@@ -1,0 +1,77 @@
+-- `pairs::near::arc_listed` meets its contract. The loop keeps the least link among those passed by; laws of Lookup. Assumes nothing.
+use mathlib.Core.Path.{_≡_, subst}
+use mathlib.Core.List.{List}
+use Rattle.pairs.proofs.Pass.{from-none}
+use Prim.Native.Nat.{ℕ, _-_, _≤_}
+use native.Mathlib.Omega.{arith}
+use lib.ListN.{take}
+use Rattle.pairs.specs.Near.{Least}
+use Rattle.pairs.proofs.Has.{one-read}
+use Rattle.pairs.proofs.Lookup.{least-start, least-is}
+use borrow.Author.Needs.{needs}
+use Rattle.pairs.proofs.near.arc_listed.Statement.{statement}
+use Rattle.pairs.proofs.near.arc_listed.Tie as tie
+
+abbrev Inv-loop : tie.InvT-loop
+Inv-loop arcs near n a b m₀ k₀ m k = (k ≤ n) × Least arcs a b (take k near) m
+
+abbrev μ-loop : tie.MeasureT-loop
+μ-loop arcs near n a b m₀ k₀ m k = n - k
+
+returns : tie.Need-returns Inv-loop μ-loop
+returns c = from-none _ _ _ (c .if1 .taken)
+
+known-near-requires : tie.Need-known-near-requires Inv-loop μ-loop
+known-near-requires c κs = search needs
+
+loop-holds : tie.Need-loop-holds Inv-loop μ-loop
+loop-holds c =
+    let a = c .before .before .before .args in
+    (search needs, least-start (a .arcs .now) (a .a) (a .b))
+
+mul-lesser : tie.Need-mul-lesser Inv-loop μ-loop
+mul-lesser c = search needs
+
+element-copy-out-lesser : tie.Need-element-copy-out-lesser Inv-loop μ-loop
+element-copy-out-lesser c = search needs
+
+lesser-requires : tie.Need-lesser-requires Inv-loop μ-loop
+lesser-requires c κs = search needs
+
+add-k : tie.Need-add-k Inv-loop μ-loop
+add-k c = search needs
+
+loop-less : tie.Need-loop-less Inv-loop μ-loop
+loop-less c = search needs
+
+loop-again : tie.Need-loop-again Inv-loop μ-loop
+loop-again c =
+    let l = c .before .before .before in
+    let a = l .before .before .before .before .args in
+    let k = l .loop .k in
+    (search needs, subst (λ (s : List ℕ). Least (a .arcs .now) (a .a) (a .b) s (c .lesser .result)) (one-read (a .near .now) k (omega (arith, l .before .known-near .ensures))) (c .lesser .ensures (take k (a .near .now)) (l .loop .inv .1)))
+
+returns-2 : tie.Need-returns-2 Inv-loop μ-loop
+returns-2 c =
+    let l = c .before in
+    let s = l .before .before .before .before in
+    let a = s .args in
+    let all : l .loop .k ≡ a .n = omega arith in
+    least-is (a .arcs .now) (a .a) (a .b) (take (a .n) (a .near .now)) (l .loop .m) (l .before .before .before .if1 .left) (s .pre .1 .0) (s .pre .1 .1) (rw all at (l .loop .inv .1))
+
+pub arc-listed-spec : {M : Type 1} → statement M
+arc-listed-spec =
+    tie.close
+    (tie.spec
+    Inv-loop
+    μ-loop
+    returns
+    known-near-requires
+    loop-holds
+    mul-lesser
+    element-copy-out-lesser
+    lesser-requires
+    add-k
+    loop-less
+    loop-again
+    returns-2)
