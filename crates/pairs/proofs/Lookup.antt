@@ -1,6 +1,7 @@
 -- The least listed link of an arc from a to b is the one that a pass finds, where every arc that leaves a is listed; so for all pairs of a perimeter.
 use Prim.Native.Nat.{ℕ, _+_, _-_, _≤_, _<_}
 use native.Mathlib.Nat.{le-refl}
+use native.Mathlib.Numerals.{add-one}
 use native.Mathlib.Omega.{arith}
 use native.Mathlib.Decide.{ℕ-discrete, decLt}
 use borrow.Author.Count.{below-none, below-more}
@@ -8,7 +9,7 @@ use borrow.Author.Tests.{eq-eqb, ne-eqb}
 use mathlib.Core.Path.{_≡_, refl, ap, sym, _∙_, subst}
 use mathlib.Core.Bool.{Bool, true, false, cond}
 use mathlib.Core.List.{List, [], _∷_, _++_}
-use lib.ListN.{length, getD, set, replicate, length-set, length-replicate, List·getD-eq-default}
+use lib.ListN.{length, getD, set, take, replicate, length-set, length-replicate, List·getD-eq-default}
 use lib.Seq.{getD-set-same, getD-set-other}
 use Rattle.rules.specs.Table.{Table, cell, has, rowLimit}
 use Rattle.rules.specs.Mesh.{joins, arcBetween, linksOf}
@@ -16,7 +17,7 @@ use Rattle.tables.proofs.Scans.{Missed, into-found, into-none}
 use Rattle.pairs.specs.Pairs.{arcsOf}
 use Rattle.pairs.specs.Near.{isMarked, Listing, AllFrom, leads, Least}
 use Rattle.pairs.proofs.Filled.{some-link}
-use Rattle.pairs.proofs.Has.{has-before}
+use Rattle.pairs.proofs.Has.{has-before, has-read}
 use Rattle.pairs.proofs.Listing.{both}
 use Rattle.pairs.proofs.Pass.{joined, from-some, from, to, places-told, zeros}
 
@@ -64,6 +65,10 @@ module _ (arcs : Table) (a b : ℕ) where
         go : (y : ℕ) → has (list ++ (x ∷ [])) y ≡ true → leads arcs a b y ≡ true → Dec (y ≡ x) → x ≤ y
         go y q l (yes e) = omega arith
         go y q l (no ne) = omega (arith, le (h .some y (has-before list x y ne q) l), h .low y (has-before list x y ne q) l)
+
+  -- so it is among fewer links
+  pub least-read : (at : List ℕ) (n m : ℕ) → Least arcs a b (take n at ++ (getD at n 0 ∷ [])) m → Least arcs a b (take (n + 1) at) m
+  least-read at n m h = rw (add-one n) (record { is = h .is; some = λ x q. h .some x (has-read at n x q); low = λ x q. h .low x (has-read at n x q) })
 
   pub least-is : (list : List ℕ) (m : ℕ) → (a ≡ 0 → ⊥) → length arcs ≤ rowLimit → AllFrom arcs list a → Least arcs a b list m → m ≡ arcBetween arcs a b
   least-is list m na fits all h = go (ℕ-discrete m 0)

@@ -16,7 +16,7 @@ use Rattle.rules.specs.Mesh.{joins, arcBetween, placesOf, linksOf}
 use Rattle.rules.proofs.Scan.{joins-no-source}
 use Rattle.rules.proofs.Places.{place-is, places-length}
 use Rattle.tables.proofs.Scans.{Missed, into-found, into-none, into-large}
-use Rattle.pairs.specs.Pairs.{pairArc, arcsOf, markCount, marksOf, NoMarks, isPair, noteAt, noted}
+use Rattle.pairs.specs.Pairs.{pairArc, arcsOf, markCount, markedAt, marksOf, NoMarks, isPair, noteAt, noted}
 use Rattle.pairs.proofs.Blocks.{over-run}
 use Rattle.pairs.proofs.Steps.{markAt}
 use Rattle.pairs.proofs.Listed.{arcs-length, arcs-at, arcs-past}
@@ -44,12 +44,12 @@ module _ (l : List ℕ) where
           getD-set-other (marked k) (getD l k 0 % markCount) (getD l i 0 % markCount) true false ne ∙ ih (omega arith)
 
   pub marks-length : length (marksOf l) ≡ markCount
-  unfolding marksOf marked
+  unfolding marksOf markedAt marked
   marks-length = marked-length (length l)
 
   -- a number with no mark at its remainder is not in the list
   pub unmarked : (x : ℕ) → getD (marksOf l) (x % markCount) false ≡ false → (i : ℕ) → i < length l → x ≡ getD l i 0 → ⊥
-  unfolding marksOf marked
+  unfolding marksOf markedAt marked
   unmarked x h i q e =
       let is : getD (marked (length l)) (x % markCount) false ≡ true = ap (λ (y : ℕ). getD (marked (length l)) (y % markCount) false) e ∙ marked-at (length l) i q in
       let z : _≡_ {A = ℕ} 0 1 = ap (λ (b : Bool). cond b 1 0) (sym h ∙ is) in

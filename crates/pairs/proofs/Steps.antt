@@ -4,7 +4,7 @@ use native.Mathlib.Omega.{arith}
 use mathlib.Core.Path.{_≡_, sym, _∙_}
 use mathlib.Core.Bool.{Bool, true, false}
 use mathlib.Core.List.{List}
-use lib.ListN.{length, getD, set, replicate, length-take}
+use lib.ListN.{length, getD, set, length-take}
 use lib.Dec.{eqb}
 use borrow.Author.Tests.{eq-eqb, ne-eqb}
 use Rattle.rules.specs.declared.Links.{Links}
@@ -17,8 +17,8 @@ use Rattle.pairs.specs.Pairs.{markCount, isPair, noteAt, sameTwo, meets}
 abbrev pub markAt : List ℕ → ℕ → List Bool → List Bool
 markAt l i seen = set seen (getD l i 0 % markCount) true
 
-pub marks-more : (l : List ℕ) (seen : List Bool) (i x y : ℕ) → x ≡ getD l i 0 → y ≡ x → seen ≡ upTo (markAt l) i (replicate markCount false) → set seen (y % markCount) true ≡ upTo (markAt l) (i + 1) (replicate markCount false)
-marks-more l seen i x y ex ey h = rw (upTo-more, ← h, ey, ex)
+pub marks-more : (l : List ℕ) (seen₀ seen : List Bool) (i x y : ℕ) → x ≡ getD l i 0 → y ≡ x → seen ≡ upTo (markAt l) i seen₀ → set seen (y % markCount) true ≡ upTo (markAt l) (i + 1) seen₀
+marks-more l seen₀ seen i x y ex ey h = rw (upTo-more, ← h, ey, ex)
 
 -- the array that holds a list, at a place of the list
 item-is : (per : Links) (i : ℕ) → i < length (listOf per) → getD (per .at) i 0 ≡ getD (listOf per) i 0

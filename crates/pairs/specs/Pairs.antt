@@ -21,12 +21,15 @@ arcsOf arcs per = listBelow (pairArc arcs per) (length per)
 
 -- ---- one pass
 
--- marks at the remainders that the numbers of a list leave
+-- marks at the remainders that the numbers of a list leave, put to others or alone
 abbrev pub markCount : ℕ
 markCount = 4096
 
+unfoldable pub markedAt : List Bool → List ℕ → List Bool
+markedAt seen l = upTo (λ i s. set s (getD l i 0 % markCount) true) (length l) seen
+
 unfoldable pub marksOf : List ℕ → List Bool
-marksOf l = upTo (λ i seen. set seen (getD l i 0 % markCount) true) (length l) (replicate markCount false)
+marksOf l = markedAt (replicate markCount false) l
 
 -- the rows from i up to r have no mark: each is told by its source
 abbrev pub NoMarks : Table → List Bool → ℕ → ℕ → Type 0

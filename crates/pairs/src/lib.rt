@@ -9,7 +9,6 @@ pub mod near; // near.rt: arcs near an edit, listed in one pass for all its peri
 use rules::ArcRow;
 use rules::Links;
 use rules::RING;
-use tables::rows;
 ghost use mathlib.Core.Path.{_≡_};
 ghost use Prim.Native.Nat.{_<_};
 ghost use lib.ListN.{length, getD};
@@ -28,14 +27,8 @@ pub const MARKS: usize = 4096;
 fn marks(list: Links) -> [bool; MARKS]
     ensures { λ r. ⌜ r ≡ marksOf (listOf list) ⌝ }
 {
-    let n = lists::size(list);
     let mut seen = [false; MARKS];
-    let mut i: usize = 0;
-    while i < n {
-        let place = rows::wide(lists::item(list, i)) % MARKS;
-        seen[place] = true;
-        i += 1;
-    }
+    near::mark(&mut seen, list);
     seen
 }
 

@@ -16,7 +16,7 @@ ghost use Prim.Native.Nat.{ℕ, _+_, _<_, _≤_};
 ghost use lib.ListN.{length, getD, set, take};
 ghost use Rattle.rules.specs.Table.{unused};
 ghost use Rattle.rules.specs.Mesh.{linksOf, listOf, arcBetween};
-ghost use Rattle.pairs.specs.Pairs.{arcsOf};
+ghost use Rattle.pairs.specs.Pairs.{arcsOf, markedAt};
 ghost use Rattle.pairs.specs.Near.{isMarked, Near, Onward, ListedTo, Tells, AllFrom, Least};
 
 // How many links a list holds.
@@ -51,8 +51,10 @@ fn known_marks(seen: [bool; MARKS])
 
 // ---- the pass that lists them
 
-// Marks at the vertices of a list. No statement rests on them: a vertex without a mark only costs a pass.
-pub fn mark(seen: &mut [bool; MARKS], list: Links) {
+// Marks at the vertices of a list.
+pub fn mark(seen: &mut [bool; MARKS], list: Links)
+    ensures { λ _. ⌜ now (seen .exit) ≡ markedAt (now (seen .entry)) (listOf list) ⌝ }
+{
     let n = lists::size(list);
     let mut i: usize = 0;
     while i < n {
@@ -216,7 +218,6 @@ fn arc_listed(arcs: &[ArcRow], near: &[u32; NEAR], n: usize, a: u32, b: u32) -> 
     if a == 0 {
         return 0;
     }
-    known_near(*near);
     let mut m: u32 = 0;
     let mut k: usize = 0;
     while k < n {

@@ -26,13 +26,13 @@ arc-listed-requires c κs =
     (t .few, (t .fits, all-from (a .arcs .now) (a .seen .now) (take (a .by .len) (a .near .now)) (a .by .spare) (a .a) (s .pre (t .some) (t .within) (t .free)) is))
 
 returns : tie.Need-returns
-returns c = search needs
+returns c = c .arc-listed .ensures
 
 find-arc-requires : tie.Need-find-arc-requires
 find-arc-requires c κs = search needs
 
 returns-2 : tie.Need-returns-2
-returns-2 c = search needs
+returns-2 c = c .find-arc .ensures
 
 pub arc-between-near-spec : {M : Type 1} → statement M
 arc-between-near-spec =

@@ -6,8 +6,7 @@ use Prim.Native.Nat.{ℕ, _-_, _≤_}
 use native.Mathlib.Omega.{arith}
 use lib.ListN.{take}
 use Rattle.pairs.specs.Near.{Least}
-use Rattle.pairs.proofs.Has.{one-read}
-use Rattle.pairs.proofs.Lookup.{least-start, least-is}
+use Rattle.pairs.proofs.Lookup.{least-start, least-read, least-is}
 use borrow.Author.Needs.{needs}
 use Rattle.pairs.proofs.near.arc_listed.Statement.{statement}
 use Rattle.pairs.proofs.near.arc_listed.Tie as tie
@@ -21,12 +20,9 @@ abbrev μ-loop : tie.MeasureT-loop
 returns : tie.Need-returns Inv-loop μ-loop
 returns c = from-none _ _ _ (c .if1 .taken)
 
-known-near-requires : tie.Need-known-near-requires Inv-loop μ-loop
-known-near-requires c κs = search needs
-
 loop-holds : tie.Need-loop-holds Inv-loop μ-loop
 loop-holds c =
-    let a = c .before .before .before .args in
+    let a = c .before .args in
     (search needs, least-start (a .arcs .now) (a .a) (a .b))
 
 mul-lesser : tie.Need-mul-lesser Inv-loop μ-loop
@@ -47,17 +43,17 @@ loop-less c = search needs
 loop-again : tie.Need-loop-again Inv-loop μ-loop
 loop-again c =
     let l = c .before .before .before in
-    let a = l .before .before .before .before .args in
+    let a = l .before .before .args in
     let k = l .loop .k in
-    (search needs, subst (λ (s : List ℕ). Least (a .arcs .now) (a .a) (a .b) s (c .lesser .result)) (one-read (a .near .now) k (omega (arith, l .before .known-near .ensures))) (c .lesser .ensures (take k (a .near .now)) (l .loop .inv .1)))
+    (search needs, least-read (a .arcs .now) (a .a) (a .b) (a .near .now) k (c .lesser .result) (c .lesser .ensures (take k (a .near .now)) (l .loop .inv .1)))
 
 returns-2 : tie.Need-returns-2 Inv-loop μ-loop
 returns-2 c =
     let l = c .before in
-    let s = l .before .before .before .before in
+    let s = l .before .before in
     let a = s .args in
     let all : l .loop .k ≡ a .n = omega arith in
-    least-is (a .arcs .now) (a .a) (a .b) (take (a .n) (a .near .now)) (l .loop .m) (l .before .before .before .if1 .left) (s .pre .1 .0) (s .pre .1 .1) (rw all at (l .loop .inv .1))
+    least-is (a .arcs .now) (a .a) (a .b) (take (a .n) (a .near .now)) (l .loop .m) (l .before .if1 .left) (s .pre .1 .0) (s .pre .1 .1) (rw all at (l .loop .inv .1))
 
 pub arc-listed-spec : {M : Type 1} → statement M
 arc-listed-spec =
@@ -66,7 +62,6 @@ arc-listed-spec =
     Inv-loop
     μ-loop
     returns
-    known-near-requires
     loop-holds
     mul-lesser
     element-copy-out-lesser

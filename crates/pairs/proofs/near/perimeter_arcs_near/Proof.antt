@@ -39,13 +39,13 @@ arcs-listed-requires c κs =
     (t .few, (t .fits, λ i q. all-from (a .arcs .now) (a .seen .now) (take (a .by .len) (a .near .now)) (a .by .spare) (getD per i 0) listing (m i q)))
 
 returns : tie.Need-returns
-returns c = search needs
+returns c = c .arcs-listed .ensures
 
 perimeter-arcs-requires : tie.Need-perimeter-arcs-requires
 perimeter-arcs-requires c κs = search needs
 
 returns-2 : tie.Need-returns-2
-returns-2 c = search needs
+returns-2 c = c .perimeter-arcs .ensures
 
 pub perimeter-arcs-near-spec : {M : Type 1} → statement M
 perimeter-arcs-near-spec =
