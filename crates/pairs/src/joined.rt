@@ -8,14 +8,8 @@ use rules::RING;
 ghost use mathlib.Core.Path.{_≡_};
 ghost use mathlib.Core.Bool.{true};
 ghost use Prim.Native.Nat.{_≤_};
-ghost use lib.ListN.{length};
 ghost use Rattle.rules.specs.Table.{someBelow};
 ghost use Rattle.pairs.specs.Pairs.{runsAt, NoneLed};
-
-// Says only how many places a list has.
-fn known_places(at: [u32; RING])
-    ensures { λ _. ⌜ length at ≡ 64 ⌝ }
-{}
 
 // Whether one of the n pairs runs from s to d.
 fn is_listed(from: &[u32; RING], to: &[u32; RING], n: usize, s: u32, d: u32) -> bool
@@ -42,7 +36,6 @@ pub fn none_led(arcs: &[ArcRow], from: &[u32; RING], to: &[u32; RING], n: usize)
     if n == 0 {
         return true;
     }
-    known_places(*from);
     let seen = crate::marks(Links { at: *from, len: n });
     let mut i = marked::skip(arcs, &seen, 0);
     while i < arcs.len() {

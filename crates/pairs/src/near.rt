@@ -1,6 +1,6 @@
-// The arcs near an edit, listed in one pass over the arc table for all perimeters of that edit, and the lookups of document 01's rule 5 by that list.
-// Listed are the arcs that leave a vertex with a mark, and the lowest unused rows: new arcs take them, so the list stays true while its last unused
-// row, the spare one, is unused. Where the list does not tell, a lookup goes over the table.
+// The arcs near an edit, listed in one pass over the arc table for all perimeters of that edit, and looked up there: document 01's rule 5,
+// "perimeter pairs in order: an existing arc ..". Listed are the arcs that leave a vertex with a mark, and the lowest unused rows: new arcs take
+// them, so the list stays true while its last unused row, the spare one, is unused. Where the list does not tell, a lookup goes over the table.
 
 use crate::MARKS;
 use crate::ROW_LIMIT;
@@ -22,7 +22,7 @@ ghost use Rattle.pairs.specs.Near.{isMarked, Near, Onward, ListedTo, Tel
 // How many links a list holds.
 pub const NEAR: usize = 512;
 
-// How many rows the lookups of one perimeter read in the list's way, at most: more than that, and a pass is as fast.
+// How many listed rows the lookups of one perimeter read at most: beyond that a pass is as fast.
 const LOOKUPS: usize = 4096;
 
 // How many links are listed, the last unused row among them, and the lowest unused row; all 0 where the list tells nothing.

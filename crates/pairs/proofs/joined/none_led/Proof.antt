@@ -18,9 +18,6 @@ abbrev μ-loop : tie.MeasureT-loop
 returns : tie.Need-returns Inv-loop μ-loop
 returns c = λ e j q. let z : ⊥ = omega arith in absurd z
 
-known-places-requires : tie.Need-known-places-requires Inv-loop μ-loop
-known-places-requires c κs = search needs
-
 marks-requires : tie.Need-marks-requires Inv-loop μ-loop
 marks-requires c κs = search needs
 
@@ -30,12 +27,11 @@ skip-requires c κs = search needs
 loop-holds : tie.Need-loop-holds Inv-loop μ-loop
 loop-holds c =
     let m = c .before .before in
-    let k = m .before .before in
-    let a = k .before .before .before .args in
+    let a = m .before .before .before .args in
     let arcs = a .arcs .now in
     let from = a .from .now in
     let to = a .to .now in
-    (search needs, unled-run arcs from to (a .n) 0 (c .skip .result) (m .marks .result) (omega (arith, k .known-places .ensures)) (m .marks .ensures) (c .skip .ensures .0) (c .skip .ensures .1 .1) (unled-start arcs from to (a .n)))
+    (search needs, unled-run arcs from to (a .n) 0 (c .skip .result) (m .marks .result) (m .marks .ensures) (c .skip .ensures .0) (c .skip .ensures .1 .1) (unled-start arcs from to (a .n)))
 
 mul-is-listed : tie.Need-mul-is-listed Inv-loop μ-loop
 mul-is-listed c = search needs
@@ -75,20 +71,19 @@ loop-again c =
     let j = c .before .before in
     let l = j .before .before .before .before .before in
     let m = l .before .before .before in
-    let k = m .before .before in
-    let a = k .before .before .before .args in
+    let a = m .before .before .before .args in
     let arcs = a .arcs .now in
     let from = a .from .now in
     let to = a .to .now in
     let i = l .loop .i in
     let one = unled-next arcs from to (a .n) i (rw (← j .before .is-listed .ensures) (j .if2 .left)) (l .loop .inv .1) in
     let r = c .skip2 in
-    (r .ensures .1 .0, unled-run arcs from to (a .n) (i + 1) (r .result) (m .marks .result) (omega (arith, k .known-places .ensures)) (m .marks .ensures) (r .ensures .0) (r .ensures .1 .1) one)
+    (r .ensures .1 .0, unled-run arcs from to (a .n) (i + 1) (r .result) (m .marks .result) (m .marks .ensures) (r .ensures .0) (r .ensures .1 .1) one)
 
 returns-3 : tie.Need-returns-3 Inv-loop μ-loop
 returns-3 c =
     let l = c .before in
-    let a = l .before .before .before .before .before .before .before .before .args in
+    let a = l .before .before .before .before .before .before .args in
     λ e. unled-end (a .arcs .now) (a .from .now) (a .to .now) (a .n) (l .loop .i) (c .loop-test .left) (l .loop .inv .1)
 
 pub none-led-spec : {M : Type 1} → statement M
@@ -98,7 +93,6 @@ none-led-spec =
     Inv-loop
     μ-loop
     returns
-    known-places-requires
     marks-requires
     skip-requires
     loop-holds
