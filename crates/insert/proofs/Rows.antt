@@ -12,8 +12,7 @@ use lib.Seq.{drop-cons, getD-set-same, getD-set-other}
 use lib.Dec.{eqb}
 use borrow.Author.Tests.{eq-eqb, ne-eqb}
 use Rattle.rules.specs.declared.Links.{Links}
-use Rattle.rules.specs.declared.Ended.{Ended}
-use Rattle.rules.specs.declared.Ended.the-variants.{Closed, Open, Cut}
+use Rattle.rules.specs.declared.Ended.the-variants.{Closed}
 use Rattle.rules.specs.declared.Walk.{Walk}
 use Rattle.rules.specs.Table.{Table, cell, upTo, after, freeRow, count, used}
 use Rattle.rules.specs.Mesh.{Mesh, with-arcs, oppositeOf, placesOf, linksOf, listOf}
@@ -25,8 +24,9 @@ use Rattle.rules.proofs.Places.{list-back}
 use Rattle.edges.proofs.Rings.{walk-length}
 use Rattle.pairs.specs.Pairs.{pairArc, arcsOf}
 use Rattle.pairs.proofs.Listed.{arcs-length}
-use Rattle.insert.specs.Perimeter.{listFrom, listsFrom, interiorBy, exteriorTo, exteriorBy, isCut, InRow, Taken}
+use Rattle.insert.specs.Perimeter.{listFrom, listsFrom, interiorBy, exteriorTo, exteriorBy, isCut, Reaches, whole, circling, InRow, Taken}
 use Rattle.insert.proofs.FoundOnce.{lists-are, list-at-place, put-face-by}
+use Rattle.insert.proofs.Circles.{circle-same}
 
 -- ---- the search of a row. What stands for an arc is given: itself, or its opposite
 
@@ -47,7 +47,7 @@ module _ (arcs : Table) (g : ℕ → ℕ) (row : List ℕ) (j : ℕ) where
     unfolding facelessIn
     row-next e = rw (drop-cons row j 0 l, ne-eqb _ _ (λ q. e (sym its-face ∙ q)), add-one j)
 
--- ---- a row has the same first arc without a face as its list
+-- ---- the places of a list have the same first arc without a face as the list
 
 module _ (t : Table) (g : ℕ → ℕ) (none : g 0 ≡ 0) where
   padded : (n m : ℕ) → facelessIn t (map g (take n (replicate m 0))) ≡ 0
@@ -62,17 +62,13 @@ module _ (t : Table) (g : ℕ → ℕ) (none : g 0 ≡ 0) where
   same-first zero m (x ∷ xs) h = absurd (not-suc-le-zero h)
   same-first (suc n) m (x ∷ xs) h = ap (λ (later : ℕ). cond (eqb (cell t (g x) 4) 0) (g x) later) (same-first n m xs (omega arith))
 
-  first-in-row : (row l : List ℕ) → InRow row l → facelessIn t (map g row) ≡ facelessIn t (map g l)
-  unfolding placesOf
-  first-in-row row l h = ap (λ (r : List ℕ). facelessIn t (map g r)) (h .places) ∙ same-first 64 64 l (h .few)
-
 pub map-itself : (l : List ℕ) → map (λ x. x) l ≡ l
 map-itself [] = refl
 map-itself (x ∷ xs) = ap {B = List ℕ} (λ r. x ∷ r) (map-itself xs)
 
 out-in-row : (t : Table) (row l : List ℕ) → InRow row l → facelessIn t row ≡ facelessIn t l
 out-in-row t row l h =
-    ap (facelessIn t) (sym (map-itself row)) ∙ first-in-row t (λ x. x) refl row l h ∙ ap (facelessIn t) (map-itself l)
+    ap (facelessIn t) (sym (map-itself row)) ∙ h .finds t (λ x. x) refl ∙ ap (facelessIn t) (map-itself l)
 
 opposite-none : (t e : Table) → oppositeOf t e 0 ≡ 0
 unfolding oppositeOf cell
@@ -82,7 +78,7 @@ opposite-none t e = refl
 
 exterior-same : (edges : Table) (out out′ back back′ : List ℕ) (x : ℕ) (t : Table) → InRow out out′ → InRow back back′ → exteriorTo edges out back x t ≡ exteriorTo edges out′ back′ x t
 unfolding exteriorTo
-exterior-same edges out out′ back back′ x t p q = rw (out-in-row t out out′ p, first-in-row t (oppositeOf t edges) (opposite-none t edges) back back′ q)
+exterior-same edges out out′ back back′ x t p q = rw (out-in-row t out out′ p, q .finds t (oppositeOf t edges) (opposite-none t edges))
 
 upTo-same : (f g : ℕ → Table → Table) (n : ℕ) (t : Table) → ((i : ℕ) (u : Table) → i < n → f i u ≡ g i u) → upTo f n t ≡ upTo g n t
 unfolding upTo
@@ -137,52 +133,42 @@ walk-same step first (suc b) (suc c) (suc x) e l = go (eqb (step (suc x)) first)
     go true q k ih = refl
     go false q k ih = ap {B = List ℕ} (λ r. suc x ∷ r) (ih q (omega arith))
 
--- what the loop keeps of each row that is taken
-pub record Whole (step : ℕ → ℕ) (first : ℕ) (row : List ℕ) (longest : ℕ) : Type 0 where
-  pub places : row ≡ placesOf (walk step first 64 first)
-  pub ended : isCut (walkEnded step first 64 first) ≡ false
-  pub short : length (walk step first 64 first) ≤ longest
+-- a walk of 64 in its row holds the walk under every bound that reaches so far
+reached : (step : ℕ → ℕ) (x n b : ℕ) → Reaches (walkOf step x 64) n → n ≤ b → InRow (placesOf (walk step x 64 x)) (walk step x b x)
+unfolding walkOf linksOf placesOf
+reached step x n b (whole e l) q =
+    record { finds = λ t g z. same-first t g z 64 64 (walk step x 64 x) (walk-length step x 64 x) ∙ ap (λ (w : List ℕ). facelessIn t (map g w)) (sym (walk-same step x 64 b x e (omega arith))) }
+reached step x n b (circling e l h) q =
+    record { finds = λ t g z. same-first t g z 64 64 (walk step x 64 x) (walk-length step x 64 x) ∙ sym (circle-same step x n e l h b q t g) }
 
+-- what the loop keeps of each row that is taken
 abbrev pub Got : Table → Table → List ℕ → List (List ℕ) → ℕ → ℕ → Type 0
-Got arcs edges leads rows longest i = (k : ℕ) → k < i → Whole (turnIn arcs edges) (getD leads k 0) (getD rows k []) longest
+Got arcs edges leads rows longest i = (k : ℕ) → k < i → (b : ℕ) → longest ≤ b → InRow (getD rows k []) (listFrom arcs edges b (getD leads k 0))
 
 pub got-none : (arcs edges : Table) (leads : List ℕ) (rows : List (List ℕ)) (longest : ℕ) → Got arcs edges leads rows longest 0
 got-none arcs edges leads rows longest k l = absurd (not-suc-le-zero l)
 
--- w is the walk of list i, from x
-pub got-more : (arcs edges : Table) (leads : List ℕ) (rows : List (List ℕ)) (longest i x : ℕ) (w : Walk) (longer : ℕ) → i < length rows → x ≡ getD leads i 0 → w ≡ walkOf (turnIn arcs edges) x 64 → isCut (w .ended) ≡ false → longest ≤ longer → w .links .len ≤ longer
+-- w is the walk of list i, from x, and n arcs are enough for it
+pub got-more : (arcs edges : Table) (leads : List ℕ) (rows : List (List ℕ)) (longest i x : ℕ) (w : Walk) (n longer : ℕ) → i < length rows → x ≡ getD leads i 0 → w ≡ walkOf (turnIn arcs edges) x 64 → Reaches w n → longest ≤ longer → n ≤ longer
     → Got arcs edges leads rows longest i → Got arcs edges leads (set rows i (w .links .at)) longer (i + 1)
-unfolding walkOf linksOf
-got-more arcs edges leads rows longest i x w longer l ex ew ec g₁ g₂ h k q = go (ℕ-discrete k i)
+unfolding walkOf linksOf listFrom
+got-more arcs edges leads rows longest i x w n longer l ex ew r g₁ g₂ h k q b m = go (ℕ-discrete k i)
   where
-    step : ℕ → ℕ
-    step = turnIn arcs edges
-
     is : w ≡ walkOf (turnIn arcs edges) (getD leads i 0) 64
     is = ew ∙ ap (λ (y : ℕ). walkOf (turnIn arcs edges) y 64) ex
 
-    here : Whole (turnIn arcs edges) (getD leads i 0) (w .links .at) longer
-    here = record {
-      places = ap (λ (v : Walk). v .links .at) is;
-      ended = ap (λ (v : Walk). isCut (v .ended)) (sym is) ∙ ec;
-      short = omega (arith, ap (λ (v : Walk). v .links .len) is);
-    }
+    here : InRow (w .links .at) (walk (turnIn arcs edges) (getD leads i 0) b (getD leads i 0))
+    here = subst (λ (v : Walk). InRow (v .links .at) (walk (turnIn arcs edges) (getD leads i 0) b (getD leads i 0))) (sym is) (reached (turnIn arcs edges) (getD leads i 0) n b (subst (λ (v : Walk). Reaches v n) is r) (omega arith))
 
-    go : Dec (k ≡ i) → Whole (turnIn arcs edges) (getD leads k 0) (getD (set rows i (w .links .at)) k []) longer
+    go : Dec (k ≡ i) → InRow (getD (set rows i (w .links .at)) k []) (walk (turnIn arcs edges) (getD leads k 0) b (getD leads k 0))
     go (yes e) = rw (e, getD-set-same rows i (w .links .at) [] l) here
-    go (no ne) =
-        let old = h k (omega arith) in
-        rw (getD-set-other rows i k (w .links .at) [] ne) (record { places = old .places; ended = old .ended; short = omega (arith, old .short) })
+    go (no ne) = rw (getD-set-other rows i k (w .links .at) [] ne) (h k (omega arith) b (omega arith))
 
--- at the loop's end, where the mesh has no fewer arcs than the longest
+-- at the loop's end, where the mesh has as many arcs as are enough
 pub got-all : (arcs edges : Table) (leads : List ℕ) (rows : List (List ℕ)) (longest n : ℕ) → n ≡ length leads → longest ≤ count used arcs → Got arcs edges leads rows longest n → Taken rows (listsFrom arcs edges (count used arcs) leads) (length leads)
 unfolding listFrom
 got-all arcs edges leads rows longest n en many h k l =
-    let g = h k (omega arith) in
-    let x = getD leads k 0 in
-    let step = turnIn arcs edges in
-    let same : getD (listsFrom arcs edges (count used arcs) leads) k [] ≡ walk (turnIn arcs edges) (getD leads k 0) 64 (getD leads k 0) = list-at-place arcs edges (count used arcs) leads k ∙ walk-same step x 64 (count used arcs) x (g .ended) (omega (arith, g .short)) in
-    record { few = rw same (walk-length step x 64 x); places = g .places ∙ ap placesOf (sym same) }
+    rw (list-at-place arcs edges (count used arcs) leads k) (h k (omega arith) (count used arcs) many)
 
 -- the lists from the leading arcs of the perimeter's vertices are those of the mesh
 module _ (m : Mesh) (per : List ℕ) (rows : List (List ℕ)) (leads : Links) (few : length per ≤ 64) (el : leads ≡ linksOf (map (λ v. cell (m .vertices) v 1) per))

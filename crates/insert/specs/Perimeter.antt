@@ -3,12 +3,13 @@ use Prim.Native.Nat.{ℕ, _≤_, _<_}
 use mathlib.Core.Path.{_≡_}
 use mathlib.Core.Bool.{Bool, true, false, cond}
 use mathlib.Core.List.{List, [], map}
-use lib.ListN.{length, getD}
+use lib.ListN.{length, getD, take}
 use lib.Dec.{eqb}
-use Rattle.rules.specs.Table.{Table, cell, put, upTo, after, orElse}
+use Rattle.rules.specs.Table.{Table, cell, put, upTo, after, orElse, has}
 use Rattle.rules.specs.declared.Ended.{Ended}
 use Rattle.rules.specs.declared.Ended.the-variants.{Closed, Open, Cut}
-use Rattle.rules.specs.Mesh.{Mesh, oppositeOf, placesOf}
+use Rattle.rules.specs.declared.Walk.{Walk}
+use Rattle.rules.specs.Mesh.{Mesh, oppositeOf}
 use Rattle.rules.specs.Link.{walk, turnIn, getOrInsertEdge}
 use Rattle.rules.specs.Insert.{facelessIn}
 use Rattle.edges.specs.declared.free.Lowest.{Lowest}
@@ -43,10 +44,14 @@ isCut Closed = false
 isCut Open = false
 isCut Cut = true
 
--- a list of at most 64 links in a row of 64 places, 0 from its end on; and so many lists, each in its row
+-- so many arcs are enough to meet every arc of a list: its walk was not cut off and is no longer, or the arc after them stands among them
+pub data Reaches (w : Walk) (n : ℕ) : Type 0 where
+  whole : isCut (w .ended) ≡ false → w .links .len ≤ n → Reaches w n
+  circling : isCut (w .ended) ≡ true → n < 64 → has (take n (w .links .at)) (getD (w .links .at) n 0) ≡ true → Reaches w n
+
+-- a list in a row: a search of the row, 0 for none, finds what one of the list does; and so many lists, each in its row
 pub record InRow (row l : List ℕ) : Type 0 where
-  pub few : length l ≤ 64
-  pub places : row ≡ placesOf l
+  pub finds : (t : Table) (g : ℕ → ℕ) → g 0 ≡ 0 → facelessIn t (map g row) ≡ facelessIn t (map g l)
 
 abbrev pub Taken : List (List ℕ) → List (List ℕ) → ℕ → Type 0
 Taken rows lists n = (k : ℕ) → k < n → InRow (getD rows k []) (getD lists k [])

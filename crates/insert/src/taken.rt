@@ -1,11 +1,13 @@
 // The lists of a perimeter's vertices as they are before its edges: a row for each, 0 from the list's end on. And the exterior by such rows.
-// Document 01's rule 5: the lists are older than the edges. A row has 64 places; longer lists are not taken so.
+// Document 01's rule 5: the lists are older than the edges. A row has 64 places. A list that is longer is taken so if it runs in a circle there:
+// every arc of it stands in the row then.
 
 use rules::ArcRow;
 use rules::EdgeRow;
 use rules::Ended;
 use rules::Links;
 use rules::RING;
+use rules::Walk;
 use tables::links;
 use tables::rows;
 use walks::lists as vertexlists;
@@ -13,11 +15,11 @@ ghost use mathlib.Core.Path.{_≡_};
 ghost use mathlib.Core.Bool.{true};
 ghost use mathlib.Core.List.{[], map};
 ghost use Prim.Native.Nat.{_≤_, _<_};
-ghost use lib.ListN.{length, getD};
-ghost use Rattle.rules.specs.Table.{count, used};
+ghost use lib.ListN.{length, getD, take};
+ghost use Rattle.rules.specs.Table.{count, used, has};
 ghost use Rattle.rules.specs.Mesh.{listOf, oppositeOf};
 ghost use Rattle.rules.specs.Insert.{facelessIn};
-ghost use Rattle.insert.specs.Perimeter.{listsFrom, exteriorTo, exteriorBy, isCut, Taken};
+ghost use Rattle.insert.specs.Perimeter.{listsFrom, exteriorTo, exteriorBy, isCut, Reaches, Taken};
 
 // Whether a walk was cut off.
 fn cut(ended: Ended) -> bool
@@ -28,6 +30,33 @@ fn cut(ended: Ended) -> bool
         Ended::Open => false,
         Ended::Cut => true,
     }
+}
+
+// The first place of the row whose arc stands before it too, so that from there on a walk repeats. 65 where there is none.
+fn place_again(row: [u32; RING]) -> usize
+    ensures { λ r. ⌜ (r ≤ 64 → (r < 64) × (has (take r row) (getD row r 0) ≡ true)) ⌝ }
+{
+    let mut k: usize = 0;
+    while k < RING {
+        if lists::has_from(Links { at: row, len: k }, 0, row[k]) {
+            return k;
+        }
+        k += 1;
+    }
+    RING + 1
+}
+
+// How many arcs of the list meet every one that it has. 65 where that is not known.
+fn reach(walk: Walk) -> usize
+    ensures { λ r. ⌜ (r ≤ 64 → Reaches walk r) ⌝ }
+{
+    let list = walk.links;
+    let ended = walk.ended;
+    if cut(ended) {
+        let at = list.at;
+        return place_again(at);
+    }
+    list.len
 }
 
 // No less than either.
@@ -58,7 +87,7 @@ fn used_at_least(arcs: &[ArcRow], n: usize) -> bool
     seen >= n
 }
 
-// The lists from these leading arcs into the rows, and whether they are whole: none was cut off, and none is longer than the mesh has arcs.
+// The lists from these leading arcs into the rows, and whether they are taken: every arc of each is in its row, among as many as the mesh has arcs.
 pub fn take_lists(
     arcs: &[ArcRow],
     edges: &[EdgeRow],
@@ -74,14 +103,14 @@ pub fn take_lists(
     let mut i: usize = 0;
     while i < n {
         let walk = vertexlists::out_list(arcs, edges, lists::item(leads, i));
-        let ended = walk.ended;
-        if cut(ended) {
+        let most = reach(walk);
+        if most > RING {
             return false;
         }
         let list = walk.links;
         let at = list.at;
         rows[i] = at;
-        longest = greater(longest, list.len);
+        longest = greater(longest, most);
         i += 1;
     }
     used_at_least(arcs, longest)

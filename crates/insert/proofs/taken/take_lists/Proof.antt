@@ -1,8 +1,8 @@
 -- `insert::taken::take_lists` meets its contract. The loop keeps the lists of the leading arcs passed by; laws of Rows. Assumes nothing.
 use Prim.Native.Nat.{ℕ, _-_, _≤_, _<_}
 use native.Mathlib.Omega.{arith}
-use mathlib.Core.Path.{_≡_, refl, ap, sym, _∙_}
-use mathlib.Core.Bool.{Bool, true, false, cond}
+use mathlib.Core.Path.{_≡_, refl, ap, _∙_}
+use mathlib.Core.Bool.{Bool, cond}
 use lib.ListN.{length, length-set}
 use Rattle.rules.specs.Mesh.{listOf}
 use Rattle.insert.proofs.Rows.{Got, got-none, got-more, got-all}
@@ -33,8 +33,8 @@ item-requires c κs = search needs
 out-list-requires : tie.Need-out-list-requires Inv-loop μ-loop
 out-list-requires c κs = search needs
 
-cut-requires : tie.Need-cut-requires Inv-loop μ-loop
-cut-requires c κs = search needs
+reach-requires : tie.Need-reach-requires Inv-loop μ-loop
+reach-requires c κs = search needs
 
 same-length : tie.Need-same-length Inv-loop μ-loop
 same-length c = search needs
@@ -67,7 +67,7 @@ loop-again c =
       search needs,
       (
         length-set (l .loop .rows) (l .loop .i) (w .result .links .at) ∙ l .loop .inv .1 .0,
-        got-more (a .arcs .now) (a .edges .now) (listOf (a .leads)) (l .loop .rows) (l .loop .longest) (l .loop .i) (c .before .before .before .before .before .before .item .result) (w .result) (c .greater .result) inside (c .before .before .before .before .before .before .item .ensures) (w .ensures) (sym (c .before .before .before .before .cut .ensures) ∙ c .before .before .before .if1 .left) (c .greater .ensures .0) (c .greater .ensures .1) (l .loop .inv .1 .1),
+        got-more (a .arcs .now) (a .edges .now) (listOf (a .leads)) (l .loop .rows) (l .loop .longest) (l .loop .i) (c .before .before .before .before .before .before .item .result) (w .result) (c .before .before .before .before .reach .result) (c .greater .result) inside (c .before .before .before .before .before .before .item .ensures) (w .ensures) (c .before .before .before .before .reach .ensures (omega (arith, c .before .before .before .if1 .left))) (c .greater .ensures .0) (c .greater .ensures .1) (l .loop .inv .1 .1),
       ),
     )
 
@@ -97,7 +97,7 @@ take-lists-spec =
     loop-holds
     item-requires
     out-list-requires
-    cut-requires
+    reach-requires
     same-length
     returns
     mul-at
