@@ -1,5 +1,6 @@
 pub mod Below
 pub mod Pairs
+pub mod Between
 pub mod Bounds
 pub mod Stretches
 pub mod Splits

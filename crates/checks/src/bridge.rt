@@ -20,6 +20,7 @@ ghost use Rattle.rules.specs.Mesh.{mesh, linksOf, listOf};
 ghost use Rattle.rules.specs.Insert.{hasFace};
 ghost use Rattle.rules.specs.Edit as Edit;
 ghost use Rattle.pairs.specs.Pairs.{arcsOf};
+ghost use Rattle.checks.specs.Between.{oneOf, otherOf, Told, Cornered};
 
 // ---- the four corners
 
@@ -53,6 +54,49 @@ pub fn corner_list(four: [u32; 4]) -> Links
     Links { at, len: 4 }
 }
 
+// ---- two arcs to be bridged, by their vertices
+
+// The arcs, four vertices as a list, and the arcs of their pairs.
+pub struct Between {
+    pub x: u32,
+    pub y: u32,
+    pub per: Links,
+    pub found: Links,
+}
+
+// The arcs from the first vertex to the second and from the third to the fourth are among those of the pairs, so all are found at once. Where both
+// are there, the four vertices are their corners.
+fn arcs_between(arcs: &[ArcRow], four: [u32; 4]) -> Between
+    ensures { λ r. ⌜ Told (now (arcs .entry)) four r × ((r .x ≡ 0 → ⊥) → (r .y ≡ 0 → ⊥) → Cornered (now (arcs .entry)) r) ⌝ }
+{
+    known_four(four);
+    let per = corner_list(four);
+    let found = pairs::perimeter_arcs(arcs, per);
+    let x = lists::item(found, 0);
+    let y = lists::item(found, 2);
+    Between { x, y, per, found }
+}
+
+// The same with the corners in any case.
+pub fn corners_between(arcs: &[ArcRow], four: [u32; 4]) -> Between
+    ensures { λ r. ⌜ Told (now (arcs .entry)) four r × Cornered (now (arcs .entry)) r ⌝ }
+{
+    let told = arcs_between(arcs, four);
+    let x = told.x;
+    let y = told.y;
+    if x != 0 {
+        if y != 0 {
+            return told;
+        }
+    }
+    let per = corner_list(corners_of(arcs, x, y));
+    lists::known_few(per);
+    let found = pairs::perimeter_arcs(arcs, per);
+    Between { x, y, per, found }
+}
+
+// ---- the checks
+
 // Whether an existing arc among the pairs of four corners has a face: xs are their arcs.
 pub fn corners_faced(arcs: &[ArcRow], xs: Links) -> bool
     ensures { λ r. ⌜ ((vs : Table) (ps : List (List Float)) (es fs : Table) (ks four : List ℕ) → listOf xs ≡ arcsOf (now (arcs .entry)) four → r ≡ someBelow (hasFace (mesh vs ps (now (arcs .entry)) es fs ks) four) 4) ⌝ }
@@ -66,8 +110,6 @@ pub fn corners_faced(arcs: &[ArcRow], xs: Links) -> bool
     }
     false
 }
-
-// ---- the checks
 
 // Those of an arc bridge, and then of the insert of its corners: xs are the arcs of their pairs.
 pub fn arc_bridge_checks_by(arcs: &[ArcRow], per: Links, xs: Links, x: u32, y: u32) -> Answer
@@ -87,15 +129,20 @@ pub fn arc_bridge_checks_by(arcs: &[ArcRow], per: Links, xs: Links, x: u32, y: u
     insert::insert_checks_by(arcs, xs, per, per)
 }
 
-// The same where the arcs are still to be found.
-pub fn arc_bridge_checks(arcs: &[ArcRow], x: u32, y: u32) -> Answer
-    ensures { λ r. ⌜ ((vs : Table) (ps : List (List Float)) (es fs : Table) (ks : List ℕ) → r ≡ Edit.arcBridgeChecks (mesh vs ps (now (arcs .entry)) es fs ks) x y) ⌝ }
+// The same for the arcs between four vertices.
+pub fn arc_bridge_checks(arcs: &[ArcRow], four: [u32; 4]) -> Answer
+    ensures { λ r. ⌜ ((vs : Table) (ps : List (List Float)) (es fs : Table) (ks : List ℕ) → r ≡ Edit.arcBridgeChecks (mesh vs ps (now (arcs .entry)) es fs ks) (oneOf (now (arcs .entry)) four) (otherOf (now (arcs .entry)) four)) ⌝ }
 {
-    let four = corners_of(arcs, x, y);
-    let per = corner_list(four);
-    lists::known_few(per);
-    let xs = pairs::perimeter_arcs(arcs, per);
-    arc_bridge_checks_by(arcs, per, xs, x, y)
+    let told = arcs_between(arcs, four);
+    let x = told.x;
+    let y = told.y;
+    if x == 0 {
+        return Answer::Refused(Refusal::TopologyNotFound);
+    }
+    if y == 0 {
+        return Answer::Refused(Refusal::TopologyNotFound);
+    }
+    arc_bridge_checks_by(arcs, told.per, told.found, x, y)
 }
 
 // Those of a bridge of two faces.

@@ -20,14 +20,14 @@ use tables::points;
 use tables::rows;
 ghost use mathlib.Core.Path.{_≡_};
 ghost use mathlib.Core.Bool.{cond};
-ghost use mathlib.Core.List.{List};
+ghost use mathlib.Core.List.{List, [], _∷_};
 ghost use Prim.Native.Nat.{ℕ, _≤_, _+_};
 ghost use lib.ListN.{length};
 ghost use lib.Dec.{eqb, leb};
 ghost use lib.Ieee.{Float};
 ghost use Rattle.rules.specs.declared.Edit.the-variants.{FaceInsert};
 ghost use Rattle.rules.specs.Table.{Table};
-ghost use Rattle.rules.specs.Mesh.{mesh, listOf};
+ghost use Rattle.rules.specs.Mesh.{mesh, listOf, findKey};
 ghost use Rattle.rules.specs.Call as Call;
 ghost use Rattle.checks.specs.Most.{AtMost, most};
 
@@ -59,6 +59,17 @@ pub fn arc_by_keys(vertices: &[VertexRow], arcs: &[ArcRow], s: u32, d: u32) -> u
     let a = rows::find_key2(vertices, s);
     let b = rows::find_key2(vertices, d);
     rows::find_arc(arcs, a, b)
+}
+
+// The vertices with four keys.
+pub fn four_by_keys(vertices: &[VertexRow], a: u32, b: u32, c: u32, d: u32) -> [u32; 4]
+    ensures { λ r. ⌜ r ≡ findKey (now (vertices .entry)) a ∷ findKey (now (vertices .entry)) b ∷ findKey (now (vertices .entry)) c ∷ findKey (now (vertices .entry)) d ∷ [] ⌝ }
+{
+    let first = rows::find_key2(vertices, a);
+    let second = rows::find_key2(vertices, b);
+    let third = rows::find_key2(vertices, c);
+    let fourth = rows::find_key2(vertices, d);
+    [first, second, third, fourth]
 }
 
 // The vertices with these keys, of which there are at most 64.
@@ -97,8 +108,7 @@ pub fn checks_of(
         }
         Edit::FaceExtrude(f, _) => extrude::known(rows::find_key3(faces, f)),
         Edit::ArcBridge(a, b, c, d) => {
-            let x = arc_by_keys(vertices, arcs, a, b);
-            bridge::arc_bridge_checks(arcs, x, arc_by_keys(vertices, arcs, c, d))
+            bridge::arc_bridge_checks(arcs, four_by_keys(vertices, a, b, c, d))
         }
         Edit::ArcExtrude(s, d, _) => {
             extrude::arc_extrude_checks(arcs, arc_by_keys(vertices, arcs, s, d))
@@ -213,9 +223,8 @@ pub fn need_of(
             needs(0, insert::one_if_none(x), 1, 2)
         }
         Edit::ArcBridge(a, b, c, d) => {
-            let x = arc_by_keys(vertices, arcs, a, b);
-            let y = arc_by_keys(vertices, arcs, c, d);
-            insert_need(arcs, bridge::corner_list(bridge::corners_of(arcs, x, y)))
+            let told = bridge::corners_between(arcs, four_by_keys(vertices, a, b, c, d));
+            insert_need(arcs, told.per)
         }
         _ => most_of(arcs, faces, edit, keys),
     }

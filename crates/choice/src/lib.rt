@@ -213,8 +213,7 @@ fn arc_bridge(
     requires { ⌜ (length (now past) ≡ length (now arcs)) × (length (now pastedges) ≡ length (now edges)) ⌝ }
     ensures { λ r. ⌜ ((p : List (List Float)) (ks : List ℕ) → step (mesh (now (vertices .exit)) p (now (arcs .exit)) (now (edges .exit)) (now (faces .exit)) (now (counters .exit))) r ≡ Call.work (mesh (now (vertices .entry)) p (now (arcs .entry)) (now (edges .entry)) (now (faces .entry)) (now (counters .entry))) (ArcBridge a b c d) ks) ⌝ }
 {
-    let x = checks::call::arc_by_keys(vertices, arcs, a, b);
-    let y = checks::call::arc_by_keys(vertices, arcs, c, d);
+    let four = checks::call::four_by_keys(vertices, a, b, c, d);
     edits::arc::arc_bridge_work(
         vertices,
         arcs,
@@ -223,8 +222,7 @@ fn arc_bridge(
         counters,
         past,
         pastedges,
-        x,
-        y,
+        four,
     )
 }
 

@@ -48,12 +48,15 @@ poke-steps m f pos vs mk c a₁ f₁ v₂ p₂ k₂ mₑ told r evs emk gone fre
 
 -- ---- arc bridge
 
-pub arc-bridged : (m m′ : Mesh) (x y : ℕ) (four : List ℕ) (per : Links) (key : ℕ) → per ≡ linksOf four → four ≡ corners m x y → key ≡ nextKey m faceKind → m′ ≡ putFace m (listOf per) (listsOf m (listOf per)) 0 → step m′ (Key key) ≡ arcBridgeWork m x y
+pub corners-bridged : (m m′ : Mesh) (x y : ℕ) (per : Links) (key : ℕ) → listOf per ≡ corners m x y → key ≡ nextKey m faceKind → m′ ≡ putFace m (listOf per) (listsOf m (listOf per)) 0 → step m′ (Key key) ≡ arcBridgeWork m x y
 unfolding arcBridgeWork insertWork
-arc-bridged m m′ x y four per key el ec ek em =
-    let held : listOf per ≡ corners m x y = corners-back m x y per (el ∙ ap linksOf ec) in
+corners-bridged m m′ x y per key held ek em =
     let put : m′ ≡ putFace m (corners m x y) (listsOf m (corners m x y)) 0 = em ∙ ap (λ (l : List ℕ). putFace m l (listsOf m l) 0) held in
     λ i. step (put i) (Key (ek i))
+
+pub arc-bridged : (m m′ : Mesh) (x y : ℕ) (four : List ℕ) (per : Links) (key : ℕ) → per ≡ linksOf four → four ≡ corners m x y → key ≡ nextKey m faceKind → m′ ≡ putFace m (listOf per) (listsOf m (listOf per)) 0 → step m′ (Key key) ≡ arcBridgeWork m x y
+arc-bridged m m′ x y four per key el ec ek em =
+    corners-bridged m m′ x y per key (corners-back m x y per (el ∙ ap linksOf ec)) ek em
 
 -- ---- bridge
 

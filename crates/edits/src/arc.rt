@@ -21,11 +21,12 @@ ghost use Rattle.rules.specs.Mesh.{mesh};
 ghost use Rattle.rules.specs.Step.{step};
 ghost use Rattle.rules.specs.Edit.{arcBridgeWork, arcBridge};
 ghost use Rattle.rules.specs.Extrude.{arcExtrudeWork};
+ghost use Rattle.checks.specs.Between.{oneOf, otherOf};
 
 // The mark of a face that bridges.
 const NO_MARK: u32 = 0;
 
-// The insert of the four corners, behind its checks: the face's key.
+// The insert of the four corners of the arcs between four vertices, behind its checks: the face's key.
 pub fn arc_bridge_work(
     vertices: &mut [VertexRow],
     arcs: &mut [ArcRow],
@@ -34,16 +35,14 @@ pub fn arc_bridge_work(
     counters: &mut [u32; 3],
     past: &mut [ArcRow],
     pastedges: &mut [EdgeRow],
-    x: u32,
-    y: u32,
+    four: [u32; 4],
 ) -> Answer
     requires { ⌜ (length (now past) ≡ length (now arcs)) × (length (now pastedges) ≡ length (now edges)) ⌝ }
-    ensures { λ r. ⌜ ((p : List (List Float)) → step (mesh (now (vertices .exit)) p (now (arcs .exit)) (now (edges .exit)) (now (faces .exit)) (now (counters .exit))) r ≡ arcBridgeWork (mesh (now (vertices .entry)) p (now (arcs .entry)) (now (edges .entry)) (now (faces .entry)) (now (counters .entry))) x y) ⌝ }
+    ensures { λ r. ⌜ ((p : List (List Float)) → step (mesh (now (vertices .exit)) p (now (arcs .exit)) (now (edges .exit)) (now (faces .exit)) (now (counters .exit))) r ≡ arcBridgeWork (mesh (now (vertices .entry)) p (now (arcs .entry)) (now (edges .entry)) (now (faces .entry)) (now (counters .entry))) (oneOf (now (arcs .entry)) four) (otherOf (now (arcs .entry)) four)) ⌝ }
 {
-    let four = checks::bridge::corners_of(arcs, x, y);
-    let per = checks::bridge::corner_list(four);
+    let told = checks::bridge::corners_between(arcs, four);
     let key = counters[2];
-    insert::face::insert_work(
+    insert::face::insert_by(
         vertices,
         arcs,
         edges,
@@ -51,7 +50,8 @@ pub fn arc_bridge_work(
         counters,
         past,
         pastedges,
-        per,
+        told.per,
+        told.found,
         NO_MARK,
     );
     Answer::Key(key)

@@ -11,15 +11,13 @@ use Rattle.rules.specs.Insert.{putFace, listsOf, insertWork}
 use Rattle.rules.specs.Edit.{remove, removeWork, splitWork, pokeWork, bridgeWork, arcBridgeWork}
 use Rattle.rules.specs.Extrude.{extrudeWork, arcExtrudeWork}
 use Rattle.rules.specs.Call.{work}
+use Rattle.checks.proofs.Between.{one-key, other-key}
 use borrow.Author.Needs.{needs}
 use Rattle.choice.proofs.arc_bridge.Statement.{statement}
 use Rattle.choice.proofs.arc_bridge.Tie as tie
 
-arc-by-keys-requires : tie.Need-arc-by-keys-requires
-arc-by-keys-requires c κs = search needs
-
-arc-by-keys-requires-2 : tie.Need-arc-by-keys-requires-2
-arc-by-keys-requires-2 c κs = search needs
+four-by-keys-requires : tie.Need-four-by-keys-requires
+four-by-keys-requires c κs = search needs
 
 arc-bridge-work-requires : tie.Need-arc-bridge-work-requires
 arc-bridge-work-requires c κs = search needs
@@ -45,18 +43,18 @@ same-length-6 c = search needs
 returns : tie.Need-returns
 unfolding work
 returns c =
-    let x = c .before .before .before .before .before .before .before .before .before .before .before .before .before .before .before .before .before .before .before .before .args in
+    let x = c .before .before .before .before .before .before .before .before .before .before .before .before .before .before .before .before .args in
+    let four = c .before .before .before .before .before .before .before .before .before .before .before .before .before .before .four-by-keys in
     λ p ks.
-    let m = (mesh (x .vertices .now) p (x .arcs .now) (x .edges .now) (x .faces .now) (x .counters .now)) in
+    let m : Mesh = mesh (x .vertices .now) p (x .arcs .now) (x .edges .now) (x .faces .now) (x .counters .now) in
     c .before .before .before .before .before .before .arc-bridge-work .ensures p
-    ∙ (λ i. arcBridgeWork m (c .before .before .before .before .before .before .before .before .before .before .before .before .before .before .before .before .before .arc-by-keys .ensures p (x .edges .now) (x .faces .now) (x .counters .now) i) (c .before .before .before .before .before .before .before .before .before .before .before .before .before .before .arc-by-keys2 .ensures p (x .edges .now) (x .faces .now) (x .counters .now) i))
+    ∙ (λ i. arcBridgeWork m (one-key m (x .a) (x .b) (x .c) (x .d) (four .result) (four .ensures) i) (other-key m (x .a) (x .b) (x .c) (x .d) (four .result) (four .ensures) i))
 
 pub arc-bridge-spec : {M : Type 1} → statement M
 arc-bridge-spec =
     tie.close
     (tie.spec
-    arc-by-keys-requires
-    arc-by-keys-requires-2
+    four-by-keys-requires
     arc-bridge-work-requires
     same-length
     same-length-2

@@ -1,41 +1,41 @@
--- `checks::bridge::arc_bridge_checks` meets its contract. Four corners are read back as they are. Assumes nothing.
+-- `checks::bridge::arc_bridge_checks` meets its contract. An arc that is not there is tested first; else the four vertices are the corners. Assumes nothing.
 use borrow.Author.Needs.{needs}
 use Rattle.checks.proofs.bridge.arc_bridge_checks.Statement.{statement}
 use Rattle.checks.proofs.bridge.arc_bridge_checks.Tie as tie
-use mathlib.Core.Path.{ap, _∙_}
-use Rattle.rules.specs.Mesh.{mesh, linksOf, listOf}
-use Rattle.pairs.proofs.Listed.{arcs-held}
-use Rattle.checks.proofs.Pairs.{corners-back}
+use borrow.Author.Tests.{eq-eqb, ne-eqb}
+use Rattle.rules.specs.Edit.{arcBridgeChecks}
 
-corners-of-requires : tie.Need-corners-of-requires
-corners-of-requires c κs = search needs
+arcs-between-requires : tie.Need-arcs-between-requires
+arcs-between-requires c κs = search needs
 
-corner-list-requires : tie.Need-corner-list-requires
-corner-list-requires c κs = search needs
+returns : tie.Need-returns
+unfolding arcBridgeChecks
+returns c = λ vs ps es fs ks. rw (← c .before .arcs-between .ensures .0 .one, eq-eqb _ _ (c .if1 .taken))
 
-known-few-requires : tie.Need-known-few-requires
-known-few-requires c κs = search needs
-
-perimeter-arcs-requires : tie.Need-perimeter-arcs-requires
-perimeter-arcs-requires c κs = search needs
+returns-2 : tie.Need-returns-2
+unfolding arcBridgeChecks
+returns-2 c =
+    λ vs ps es fs ks.
+    let t = c .before .before .arcs-between .ensures .0 in
+    rw (← t .one, ← t .other, ne-eqb _ _ (c .before .if1 .left), eq-eqb _ _ (c .if2 .taken))
 
 arc-bridge-checks-by-requires : tie.Need-arc-bridge-checks-by-requires
 arc-bridge-checks-by-requires c κs =
-    let a = c .before .before .before .before .args in (
-      λ vs ps es fs ks. corners-back (mesh vs ps (a .arcs .now) es fs ks) (a .x) (a .y) (c .before .before .corner-list .result) (c .before .before .corner-list .ensures ∙ ap linksOf (c .before .before .before .corners-of .ensures vs ps es fs ks)),
-      arcs-held (a .arcs .now) (listOf (c .before .before .corner-list .result)) (c .perimeter-arcs .result) (c .before .known-few .ensures) (c .perimeter-arcs .ensures),
-    )
+    let t = c .before .before .arcs-between .ensures in
+    (t .1 (c .before .if1 .left) (c .if2 .left), t .0 .found)
 
-returns : tie.Need-returns
-returns c = λ vs ps es fs ks. c .arc-bridge-checks-by .ensures vs ps es fs ks
+returns-3 : tie.Need-returns-3
+returns-3 c =
+    λ vs ps es fs ks.
+    let t = c .before .before .before .arcs-between .ensures .0 in
+    rw (← t .one, ← t .other) (c .arc-bridge-checks-by .ensures vs ps es fs ks)
 
 pub arc-bridge-checks-spec : {M : Type 1} → statement M
 arc-bridge-checks-spec =
     tie.close
     (tie.spec
-    corners-of-requires
-    corner-list-requires
-    known-few-requires
-    perimeter-arcs-requires
+    arcs-between-requires
+    returns
+    returns-2
     arc-bridge-checks-by-requires
-    returns)
+    returns-3)

@@ -4,8 +4,9 @@ use Rattle.checks.proofs.call.checks_of.Statement.{statement}
 use Rattle.checks.proofs.call.checks_of.Tie as tie
 use Prim.Native.Nat.{_-_}
 use mathlib.Core.Path.{_≡_, ap, _∙_}
-use Rattle.rules.specs.Mesh.{listOf}
+use Rattle.rules.specs.Mesh.{Mesh, mesh, listOf}
 use Rattle.rules.specs.Call.{checks}
+use Rattle.checks.proofs.Between.{one-key, other-key}
 use Rattle.rules.proofs.Places.{list-back}
 
 enum-told : tie.Need-enum-told
@@ -80,11 +81,8 @@ known-requires-3 c κs = search needs
 enum-known-edit-6 : tie.Need-enum-known-edit-6
 enum-known-edit-6 c = search needs
 
-arc-by-keys-requires : tie.Need-arc-by-keys-requires
-arc-by-keys-requires c κs = search needs
-
-arc-by-keys-requires-2 : tie.Need-arc-by-keys-requires-2
-arc-by-keys-requires-2 c κs = search needs
+four-by-keys-requires : tie.Need-four-by-keys-requires
+four-by-keys-requires c κs = search needs
 
 arc-bridge-checks-requires : tie.Need-arc-bridge-checks-requires
 arc-bridge-checks-requires c κs = search needs
@@ -92,8 +90,8 @@ arc-bridge-checks-requires c κs = search needs
 enum-known-edit-7 : tie.Need-enum-known-edit-7
 enum-known-edit-7 c = search needs
 
-arc-by-keys-requires-3 : tie.Need-arc-by-keys-requires-3
-arc-by-keys-requires-3 c κs = search needs
+arc-by-keys-requires : tie.Need-arc-by-keys-requires
+arc-by-keys-requires c κs = search needs
 
 arc-extrude-checks-requires : tie.Need-arc-extrude-checks-requires
 arc-extrude-checks-requires c κs = search needs
@@ -135,14 +133,17 @@ returns-7 c = λ few ps es ks. rw (c .before .before .before .edit5 .given .1, �
 returns-8 : tie.Need-returns-8
 unfolding checks
 returns-8 c =
-    let a = c .before .before .before .before .before .before .before .args in
-    λ few ps es ks. rw (c .before .before .before .before .edit6 .given .1, ← c .before .before .arc-by-keys .ensures ps es (a .faces .now) ks, ← c .before .arc-by-keys2 .ensures ps es (a .faces .now) ks) (c .arc-bridge-checks .ensures (a .vertices .now) ps es (a .faces .now) ks)
+    let a = c .before .before .before .before .before .before .args in
+    let four = c .before .four-by-keys in
+    λ few ps es ks.
+    let m : Mesh = mesh (a .vertices .now) ps (a .arcs .now) es (a .faces .now) ks in
+    rw (c .before .before .before .edit6 .given .1, ← one-key m _ _ _ _ (four .result) (four .ensures), ← other-key m _ _ _ _ (four .result) (four .ensures)) (c .arc-bridge-checks .ensures (a .vertices .now) ps es (a .faces .now) ks)
 
 returns-9 : tie.Need-returns-9
 unfolding checks
 returns-9 c =
     let a = c .before .before .before .before .before .before .args in
-    λ few ps es ks. rw (c .before .before .before .edit7 .given .1, ← c .before .arc-by-keys3 .ensures ps es (a .faces .now) ks) (c .arc-extrude-checks .ensures (a .vertices .now) ps es (a .faces .now) ks)
+    λ few ps es ks. rw (c .before .before .before .edit7 .given .1, ← c .before .arc-by-keys .ensures ps es (a .faces .now) ks) (c .arc-extrude-checks .ensures (a .vertices .now) ps es (a .faces .now) ks)
 
 pub checks-of-spec : {M : Type 1} → statement M
 checks-of-spec =
@@ -172,11 +173,10 @@ checks-of-spec =
     find-key3-requires-6
     known-requires-3
     enum-known-edit-6
-    arc-by-keys-requires
-    arc-by-keys-requires-2
+    four-by-keys-requires
     arc-bridge-checks-requires
     enum-known-edit-7
-    arc-by-keys-requires-3
+    arc-by-keys-requires
     arc-extrude-checks-requires
     returns
     returns-2

@@ -3,10 +3,10 @@ use borrow.Author.Needs.{needs}
 use Rattle.checks.proofs.call.need_of.Statement.{statement}
 use Rattle.checks.proofs.call.need_of.Tie as tie
 use Prim.Native.Nat.{_-_}
-use mathlib.Core.Path.{ap, _∙_}
-use Rattle.rules.specs.Mesh.{mesh, linksOf}
+use mathlib.Core.Path.{_∙_}
+use Rattle.rules.specs.Mesh.{mesh}
 use Rattle.rules.specs.Call.{need}
-use Rattle.checks.proofs.Pairs.{corners-back}
+use Rattle.checks.proofs.Between.{corners-key}
 use Rattle.checks.proofs.Most.{none-asked}
 
 enum-told : tie.Need-enum-told
@@ -33,17 +33,11 @@ needs-requires c κs = search needs
 enum-known-edit-2 : tie.Need-enum-known-edit-2
 enum-known-edit-2 c = search needs
 
-arc-by-keys-requires-2 : tie.Need-arc-by-keys-requires-2
-arc-by-keys-requires-2 c κs = search needs
+four-by-keys-requires : tie.Need-four-by-keys-requires
+four-by-keys-requires c κs = search needs
 
-arc-by-keys-requires-3 : tie.Need-arc-by-keys-requires-3
-arc-by-keys-requires-3 c κs = search needs
-
-corners-of-requires : tie.Need-corners-of-requires
-corners-of-requires c κs = search needs
-
-corner-list-requires : tie.Need-corner-list-requires
-corner-list-requires c κs = search needs
+corners-between-requires : tie.Need-corners-between-requires
+corners-between-requires c κs = search needs
 
 insert-need-requires-2 : tie.Need-insert-need-requires-2
 insert-need-requires-2 c κs = search needs
@@ -64,10 +58,9 @@ returns-2 c = λ few ps es ks. rw (c .before .before .before .before .edit .give
 returns-3 : tie.Need-returns-3
 unfolding need
 returns-3 c =
-    let a = c .before .before .before .before .before .before .before .before .before .args in
-    λ few ps es ks.
-    let four = corners-back (mesh (a .vertices .now) ps (a .arcs .now) es (a .faces .now) ks) (c .before .before .before .before .arc-by-keys2 .result) (c .before .before .before .arc-by-keys3 .result) (c .before .corner-list .result) (c .before .corner-list .ensures ∙ ap linksOf (c .before .before .corners-of .ensures (a .vertices .now) ps es (a .faces .now) ks)) in
-    rw (c .before .before .before .before .before .before .edit2 .given .1, ← c .before .before .before .before .arc-by-keys2 .ensures ps es (a .faces .now) ks, ← c .before .before .before .arc-by-keys3 .ensures ps es (a .faces .now) ks, ← four) (c .insert-need2 .ensures (a .vertices .now) ps es (a .faces .now) ks)
+    let a = c .before .before .before .before .before .before .before .args in
+    let told = c .before .corners-between in
+    λ few ps es ks. rw (c .before .before .before .before .edit2 .given .1, ← corners-key (mesh (a .vertices .now) ps (a .arcs .now) es (a .faces .now) ks) _ _ _ _ (c .before .before .four-by-keys .result) (c .before .before .four-by-keys .ensures) (told .result) (told .ensures .0) (told .ensures .1)) (c .insert-need2 .ensures (a .vertices .now) ps es (a .faces .now) ks)
 
 returns-4 : tie.Need-returns-4
 returns-4 c =
@@ -86,10 +79,8 @@ need-of-spec =
     one-if-none-requires
     needs-requires
     enum-known-edit-2
-    arc-by-keys-requires-2
-    arc-by-keys-requires-3
-    corners-of-requires
-    corner-list-requires
+    four-by-keys-requires
+    corners-between-requires
     insert-need-requires-2
     most-of-requires
     returns
