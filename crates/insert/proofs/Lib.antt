@@ -4,3 +4,4 @@ pub mod Loops
 pub mod Told
 pub mod Circles
 pub mod Rows
+pub mod Filled
