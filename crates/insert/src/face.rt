@@ -2,6 +2,7 @@
 
 use crate::perimeter;
 use crate::taken;
+use edges::free::Lowest;
 use rules::ArcRow;
 use rules::EdgeRow;
 use rules::FaceRow;
@@ -17,6 +18,7 @@ ghost use lib.ListN.{length};
 ghost use lib.Ieee.{Float};
 ghost use Rattle.rules.specs.Mesh.{mesh, listOf};
 ghost use Rattle.rules.specs.Insert.{putFace, listsOf};
+ghost use Rattle.edges.specs.Free.{UsedBefore};
 ghost use Rattle.pairs.specs.Pairs.{arcsOf};
 ghost use Rattle.insert.specs.Perimeter.{listsFrom};
 
@@ -39,7 +41,8 @@ fn put_face_by(
     requires { ⌜ listOf found ≡ arcsOf (now arcs) (listOf per) ⌝ }
     ensures { λ _. ⌜ ((p : List (List Float)) → mesh (now (vertices .exit)) p (now (arcs .exit)) (now (edges .exit)) (now (faces .exit)) (now (counters .exit)) ≡ putFace (mesh (now (vertices .entry)) p (now (arcs .entry)) (now (edges .entry)) (now (faces .entry)) (now (counters .entry))) (listOf per) (listsFrom (now (past .entry)) (now (pastedges .entry)) bound (listOf leads)) mark) ⌝ }
 {
-    let told = perimeter::edges_in(vertices, arcs, edges, counters, per, found);
+    let start = Lowest { arc: 0, edge: 0 };
+    let told = perimeter::edges_in(vertices, arcs, edges, counters, per, found, start);
     let xs = perimeter::arcs_told(arcs, per, told);
     let face = edges::face::new_face(faces, counters, lists::item(xs, 0), mark);
     perimeter::interior(arcs, xs, face);
@@ -80,7 +83,7 @@ pub fn put_face(
     );
 }
 
-// The same by lists that are taken: each stands in its row.
+// The same by lists that are taken: each stands in its row. Unused rows are looked for from these on.
 pub fn put_face_taken(
     vertices: &mut [VertexRow],
     arcs: &mut [ArcRow],
@@ -90,12 +93,14 @@ pub fn put_face_taken(
     rows: &[[u32; RING]],
     per: Links,
     found: Links,
+    from: Lowest,
     mark: u32,
 )
     requires { ⌜ (length (listOf per) ≤ length (now rows)) × (listOf found ≡ arcsOf (now arcs) (listOf per)) ⌝ }
+    requires { ⌜ UsedBefore (now arcs) (from .arc) × UsedBefore (now edges) (from .edge) ⌝ }
     ensures { λ _. ⌜ ((p : List (List Float)) → mesh (now (vertices .exit)) p (now (arcs .exit)) (now (edges .exit)) (now (faces .exit)) (now (counters .exit)) ≡ putFace (mesh (now (vertices .entry)) p (now (arcs .entry)) (now (edges .entry)) (now (faces .entry)) (now (counters .entry))) (listOf per) (now (rows .entry)) mark) ⌝ }
 {
-    let told = perimeter::edges_in(vertices, arcs, edges, counters, per, found);
+    let told = perimeter::edges_in(vertices, arcs, edges, counters, per, found, from);
     let ring = perimeter::arcs_told(arcs, per, told);
     let face = edges::face::new_face(faces, counters, lists::item(ring, 0), mark);
     perimeter::interior(arcs, ring, face);
@@ -140,7 +145,8 @@ fn insert_copied(
     );
 }
 
-// The insert of a perimeter that the checks let pass: the lists are taken first. found are the perimeter's arcs.
+// The insert of a perimeter that the checks let pass: the lists are taken first. found are the perimeter's arcs; unused rows are
+// looked for from these on.
 pub fn insert_by(
     vertices: &mut [VertexRow],
     arcs: &mut [ArcRow],
@@ -151,10 +157,12 @@ pub fn insert_by(
     pastedges: &mut [EdgeRow],
     per: Links,
     found: Links,
+    from: Lowest,
     mark: u32,
 )
     requires { ⌜ (length (now past) ≡ length (now arcs)) × (length (now pastedges) ≡ length (now edges)) ⌝ }
     requires { ⌜ listOf found ≡ arcsOf (now arcs) (listOf per) ⌝ }
+    requires { ⌜ UsedBefore (now arcs) (from .arc) × UsedBefore (now edges) (from .edge) ⌝ }
     ensures { λ _. ⌜ ((p : List (List Float)) → mesh (now (vertices .exit)) p (now (arcs .exit)) (now (edges .exit)) (now (faces .exit)) (now (counters .exit)) ≡ putFace (mesh (now (vertices .entry)) p (now (arcs .entry)) (now (edges .entry)) (now (faces .entry)) (now (counters .entry))) (listOf per) (listsOf (mesh (now (vertices .entry)) p (now (arcs .entry)) (now (edges .entry)) (now (faces .entry)) (now (counters .entry))) (listOf per)) mark) ⌝ }
 {
     lists::known_few(per);
@@ -170,6 +178,7 @@ pub fn insert_by(
             &rows,
             per,
             found,
+            from,
             mark,
         );
         return;
@@ -205,6 +214,7 @@ pub fn insert_work(
 {
     lists::known_few(per);
     let found = pairs::perimeter_arcs(arcs, per);
+    let from = Lowest { arc: 0, edge: 0 };
     insert_by(
         vertices,
         arcs,
@@ -215,6 +225,7 @@ pub fn insert_work(
         pastedges,
         per,
         found,
+        from,
         mark,
     );
 }

@@ -87,7 +87,8 @@ fn edge_in(
     Edged { from: made, arc }
 }
 
-// The edges: each is there, or is made. xs are the arcs that are there before. The answer is the arcs after, 0 where one is not known.
+// The edges: each is there, or is made in rows that are looked for from these on. xs are the arcs that are there before. The answer is the arcs
+// after, 0 where one is not known.
 pub fn edges_in(
     vertices: &mut [VertexRow],
     arcs: &mut [ArcRow],
@@ -95,14 +96,16 @@ pub fn edges_in(
     counters: &mut [u32; 3],
     per: Links,
     xs: Links,
+    start: Lowest,
 ) -> Links
     requires { ⌜ listOf xs ≡ arcsOf (now arcs) (listOf per) ⌝ }
+    requires { ⌜ UsedBefore (now arcs) (start .arc) × UsedBefore (now edges) (start .edge) ⌝ }
     ensures { λ r. ⌜ ((p : List (List Float)) (f : Table) → mesh (now (vertices .exit)) p (now (arcs .exit)) (now (edges .exit)) f (now (counters .exit)) ≡ edgesIn (listOf per) (mesh (now (vertices .entry)) p (now (arcs .entry)) (now (edges .entry)) f (now (counters .entry)))) × (has (listOf r) 0 ≡ false → listOf r ≡ arcsOf (now (arcs .exit)) (listOf per)) ⌝ }
 {
     let n = lists::size(per);
     lists::known_few(per);
     let mut at = [0u32; RING];
-    let mut from = Lowest { arc: 0, edge: 0 };
+    let mut from = start;
     let mut i: usize = 0;
     while i < n {
         let found = lists::item(xs, i);

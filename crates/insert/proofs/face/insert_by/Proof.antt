@@ -1,6 +1,7 @@
 -- `insert::face::insert_by` meets its contract: by the rows of the lists that are taken, or by copies of the tables. Assumes nothing.
 use Rattle.rules.specs.Mesh.{Mesh, mesh, listOf}
 use Rattle.insert.proofs.Rows.{insert-taken}
+use native.Mathlib.Omega.{arith}
 use borrow.Author.Needs.{needs}
 use Rattle.insert.proofs.face.insert_by.Statement.{statement}
 use Rattle.insert.proofs.face.insert_by.Tie as tie
@@ -21,7 +22,9 @@ slice-aggregate-put-face-taken : tie.Need-slice-aggregate-put-face-taken
 slice-aggregate-put-face-taken c = search needs
 
 put-face-taken-requires : tie.Need-put-face-taken-requires
-put-face-taken-requires c κs = search needs
+put-face-taken-requires c κs =
+    let s = c .before .before .before .before .before .before .before .before .before .before .before .before .before .before .before in
+    ((omega (arith, c .before .before .before .before .before .before .before .before .before .before .before .before .before .before .known-few .ensures, c .before .before .before .before .before .before .before .before .take-lists .kept .1 .1 .1 .0), s .pre .1 .0), s .pre .1 .1)
 
 same-length : tie.Need-same-length
 same-length c = search needs
@@ -46,7 +49,9 @@ returns c =
     insert-taken m (listOf (a .per)) (t .last .1 .1 .1 .0) (c .before .before .before .before .before .before .before .before .before .before .before .before .before .before .before .before .before .leading-arcs .result) (c .before .before .before .before .before .before .before .before .before .before .before .before .before .before .before .before .before .before .before .known-few .ensures) (c .before .before .before .before .before .before .before .before .before .before .before .before .before .before .before .before .before .leading-arcs .ensures) (t .ensures (c .before .before .before .before .before .before .before .before .before .before .before .if1 .taken)) o (a .mark) (g .ensures p)
 
 insert-copied-requires : tie.Need-insert-copied-requires
-insert-copied-requires c κs = search needs
+insert-copied-requires c κs =
+    let s = c .before .before .before .before .before .before .before .before .before .before .before .before .before .before .before .before in
+    (s .pre .0, s .pre .1 .0)
 
 same-length-5 : tie.Need-same-length-5
 same-length-5 c = search needs

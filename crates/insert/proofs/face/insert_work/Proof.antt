@@ -1,6 +1,7 @@
 -- `insert::face::insert_work` meets its contract: the pass over the arcs, then the insert by what it found. Assumes nothing.
 use borrow.Author.Needs.{needs}
 use Rattle.rules.specs.Mesh.{listOf}
+use Rattle.edges.proofs.Searches.{used-none}
 use Rattle.pairs.proofs.Listed.{arcs-held}
 use Rattle.insert.proofs.face.insert_work.Statement.{statement}
 use Rattle.insert.proofs.face.insert_work.Tie as tie
@@ -14,7 +15,7 @@ perimeter-arcs-requires c κs = search needs
 insert-by-requires : tie.Need-insert-by-requires
 insert-by-requires c κs =
     let a = c .before .before .before .before .before .before .before .before .before .before .args in
-    (c .before .before .before .before .before .before .before .before .before .before .pre, arcs-held (a .arcs .now) (listOf (a .per)) (c .before .before .before .before .before .before .before .perimeter-arcs .result) (c .before .before .before .before .before .before .before .before .before .known-few .ensures) (c .before .before .before .before .before .before .before .perimeter-arcs .ensures))
+    (c .before .before .before .before .before .before .before .before .before .before .pre, (arcs-held (a .arcs .now) (listOf (a .per)) (c .before .before .before .before .before .before .before .perimeter-arcs .result) (c .before .before .before .before .before .before .before .before .before .known-few .ensures) (c .before .before .before .before .before .before .before .perimeter-arcs .ensures), (used-none (a .arcs .now), used-none (a .edges .now))))
 
 same-length : tie.Need-same-length
 same-length c = c .before .before .before .before .before .before .insert-by .kept .0

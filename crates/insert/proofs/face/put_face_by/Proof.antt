@@ -1,4 +1,5 @@
 use Rattle.rules.specs.Mesh.{mesh, listOf}
+use Rattle.edges.proofs.Searches.{used-none}
 use Rattle.insert.specs.Perimeter.{listsFrom}
 use Rattle.insert.proofs.Loops.{put-face-steps}
 use borrow.Author.Needs.{needs}
@@ -6,7 +7,9 @@ use Rattle.insert.proofs.face.put_face_by.Statement.{statement}
 use Rattle.insert.proofs.face.put_face_by.Tie as tie
 
 edges-in-requires : tie.Need-edges-in-requires
-edges-in-requires c κs = c .before .before .before .before .pre
+edges-in-requires c κs =
+    let s = c .before .before .before .before in
+    (s .pre, (used-none (s .args .arcs .now), used-none (s .args .edges .now)))
 
 arcs-told-requires : tie.Need-arcs-told-requires
 arcs-told-requires c κs = c .before .before .before .before .edges-in .ensures .1

@@ -9,7 +9,7 @@ use Rattle.insert.proofs.face.put_face_taken.Statement.{statement}
 use Rattle.insert.proofs.face.put_face_taken.Tie as tie
 
 edges-in-requires : tie.Need-edges-in-requires
-edges-in-requires c κs = c .before .before .before .before .pre .1
+edges-in-requires c κs = (c .before .before .before .before .pre .0 .1, c .before .before .before .before .pre .1)
 
 arcs-told-requires : tie.Need-arcs-told-requires
 arcs-told-requires c κs = c .before .before .before .before .edges-in .ensures .1
@@ -28,7 +28,7 @@ exterior-requires c κs =
     let a = c .before .before .before .before .before .before .before .before .before .before .before .before .before .before .before .before .before .before .before .before .args in
     let t = c .before .before .before .before .before .before .before .before .before .before .arcs-told in
     let many : length (listOf (c .before .before .before .before .before .before .before .before .before .before .arcs-told .result)) ≡ length (listOf (a .per)) = ap length (t .ensures) ∙ arcs-length (c .before .before .before .before .before .before .before .before .before .before .before .before .before .before .before .edges-in .last .1 .0) (listOf (a .per)) in
-    rw many (c .before .before .before .before .before .before .before .before .before .before .before .before .before .before .before .before .before .before .before .before .pre .0)
+    rw many (c .before .before .before .before .before .before .before .before .before .before .before .before .before .before .before .before .before .before .before .before .pre .0 .0)
 
 same-length : tie.Need-same-length
 same-length c = search needs

@@ -10,7 +10,6 @@ use Rattle.rules.specs.Table.{Table, upTo}
 use Rattle.rules.specs.Mesh.{mesh, listOf}
 use Rattle.rules.specs.Insert.{edgesIn}
 use Rattle.edges.specs.Free.{UsedBefore}
-use Rattle.edges.proofs.Searches.{used-none}
 use Rattle.insert.specs.Perimeter.{edgeIn}
 use Rattle.insert.proofs.Apart.{Telling, tells-first, tells-more}
 use Rattle.insert.proofs.Told.{Told, told-none, told-more, told-all}
@@ -36,8 +35,8 @@ unfolding upTo
 loop-holds c =
     let s = c .before .before in
     let a = s .args in
-    let tells = tells-first (a .arcs .now) (listOf (a .per)) (a .xs) (s .pre) in
-    (search needs, (refl, (refl, (refl, (λ p f. refl, (tells, ((used-none (a .arcs .now), used-none (a .edges .now)), (refl, told-none (a .arcs .now) (listOf (a .per)) (replicate 64 0)))))))))
+    let tells = tells-first (a .arcs .now) (listOf (a .per)) (a .xs) (s .pre .0) in
+    (search needs, (refl, (refl, (refl, (λ p f. refl, (tells, (s .pre .1, (refl, told-none (a .arcs .now) (listOf (a .per)) (replicate 64 0)))))))))
 
 item-requires : tie.Need-item-requires Inv-loop μ-loop
 item-requires c κs = search needs
