@@ -3,6 +3,9 @@
 use crate::perimeter;
 use crate::taken;
 use edges::free::Lowest;
+use pairs::MARKS;
+use pairs::near;
+use pairs::near::NEAR;
 use rules::ArcRow;
 use rules::EdgeRow;
 use rules::FaceRow;
@@ -197,7 +200,7 @@ pub fn insert_by(
     );
 }
 
-// The same where the perimeter's arcs are still to be found.
+// The same where the perimeter's arcs are still to be found: in one pass, which finds the lowest unused row too.
 pub fn insert_work(
     vertices: &mut [VertexRow],
     arcs: &mut [ArcRow],
@@ -213,8 +216,15 @@ pub fn insert_work(
     ensures { λ _. ⌜ ((p : List (List Float)) → mesh (now (vertices .exit)) p (now (arcs .exit)) (now (edges .exit)) (now (faces .exit)) (now (counters .exit)) ≡ putFace (mesh (now (vertices .entry)) p (now (arcs .entry)) (now (edges .entry)) (now (faces .entry)) (now (counters .entry))) (listOf per) (listsOf (mesh (now (vertices .entry)) p (now (arcs .entry)) (now (edges .entry)) (now (faces .entry)) (now (counters .entry))) (listOf per)) mark) ⌝ }
 {
     lists::known_few(per);
-    let found = pairs::perimeter_arcs(arcs, per);
-    let from = Lowest { arc: 0, edge: 0 };
+    let mut seen = [false; MARKS];
+    near::mark(&mut seen, per);
+    let mut links = [0u32; NEAR];
+    let by = near::list_near(&mut links, arcs, &seen, 2 * lists::size(per) + 1);
+    let found = near::perimeter_arcs_near(arcs, per, &seen, &links, by);
+    let from = Lowest {
+        arc: by.first,
+        edge: 0,
+    };
     insert_by(
         vertices,
         arcs,

@@ -1,4 +1,4 @@
--- `insert::face::insert_work` meets its contract: the pass over the arcs, then the insert by what it found. Assumes nothing.
+-- `insert::face::insert_work` meets its contract: the pass over the arcs, the lookups in its list, then the insert by what they found. Assumes nothing.
 use borrow.Author.Needs.{needs}
 use Rattle.rules.specs.Mesh.{listOf}
 use Rattle.edges.proofs.Searches.{used-none}
@@ -9,13 +9,29 @@ use Rattle.insert.proofs.face.insert_work.Tie as tie
 known-few-requires : tie.Need-known-few-requires
 known-few-requires c κs = search needs
 
-perimeter-arcs-requires : tie.Need-perimeter-arcs-requires
-perimeter-arcs-requires c κs = search needs
+mark-requires : tie.Need-mark-requires
+mark-requires c κs = search needs
+
+size-requires : tie.Need-size-requires
+size-requires c κs = search needs
+
+mul-list-near : tie.Need-mul-list-near
+mul-list-near c = search needs
+
+add-list-near : tie.Need-add-list-near
+add-list-near c = search needs
+
+list-near-requires : tie.Need-list-near-requires
+list-near-requires c κs = search needs
+
+perimeter-arcs-near-requires : tie.Need-perimeter-arcs-near-requires
+perimeter-arcs-near-requires c κs = c .before .before .before .list-near .ensures .0
 
 insert-by-requires : tie.Need-insert-by-requires
 insert-by-requires c κs =
-    let a = c .before .before .before .before .before .before .before .before .before .before .args in
-    (c .before .before .before .before .before .before .before .before .before .before .pre, (arcs-held (a .arcs .now) (listOf (a .per)) (c .before .before .before .before .before .before .before .perimeter-arcs .result) (c .before .before .before .before .before .before .before .before .before .known-few .ensures) (c .before .before .before .before .before .before .before .perimeter-arcs .ensures), (used-none (a .arcs .now), used-none (a .edges .now))))
+    let s = c .before .before .before .before .before .before .before .before .before .before .before .before .before .before .before .before .before .before .before in
+    let found = c .before .before .before .before .before .before .before .perimeter-arcs-near in
+    (s .pre, (arcs-held (s .args .arcs .now) (listOf (s .args .per)) (found .result) (c .before .before .before .before .before .before .before .before .before .before .before .before .before .before .before .before .before .before .known-few .ensures) (found .ensures), (c .before .before .before .before .before .before .before .before .before .before .before .list-near .ensures .1, used-none (s .args .edges .now))))
 
 same-length : tie.Need-same-length
 same-length c = c .before .before .before .before .before .before .insert-by .kept .0
@@ -43,7 +59,12 @@ insert-work-spec =
     tie.close
     (tie.spec
     known-few-requires
-    perimeter-arcs-requires
+    mark-requires
+    size-requires
+    mul-list-near
+    add-list-near
+    list-near-requires
+    perimeter-arcs-near-requires
     insert-by-requires
     same-length
     same-length-2
