@@ -2,3 +2,4 @@ pub mod Ends
 pub mod Inserts
 pub mod Steps
 pub mod Whole
+pub mod Known

@@ -14,9 +14,9 @@ use Rattle.rules.specs.declared.Links.{Links}
 use Rattle.rules.specs.declared.Position.{Position}
 use Rattle.rules.specs.declared.Move.{Move}
 use Rattle.rules.specs.Table.{Table, freeRow, upTo, after}
-use Rattle.rules.specs.Mesh.{Mesh, mesh, source, dest, mark, vertexKind, faceKind, nextKey, keyAt, arcBetween, linksOf, listOf}
+use Rattle.rules.specs.Mesh.{Mesh, mesh, source, dest, mark, vertexKind, faceKind, nextKey, keyAt, linksOf, listOf}
 use Rattle.rules.specs.Point.{positionAt, moved}
-use Rattle.rules.specs.Link.{ring, ringVertices, newVertex, getOrInsertEdge}
+use Rattle.rules.specs.Link.{ring, ringVertices, newVertex}
 use Rattle.rules.specs.Step.{Step, step, accepted, andThen, answering}
 use Rattle.rules.specs.Insert.{insertChecks, insertWork, insertFace, putFace, listsOf}
 use Rattle.rules.specs.Edit.{remove, half, corners, splitWork, pokeWork, arcBridgeWork, arcBridge, bridgeWork}
@@ -25,7 +25,7 @@ use Rattle.rules.proofs.Scan.{upTo-more}
 use Rattle.checks.proofs.Bounds.{ring-back, vertices-back}
 use Rattle.checks.proofs.Pairs.{corners-back}
 use Rattle.checks.proofs.Stretches.{half-back}
-use Rattle.edits.specs.Each.{eachIn}
+use Rattle.edits.specs.Each.{eachIn, joinedBy}
 use Rattle.edits.proofs.Steps.{answering-twice, each-told, each-as, each-from, each-refused}
 use Rattle.edits.proofs.Inserts.{checked-refused, checked-done}
 
@@ -163,17 +163,16 @@ extrude-steps m f move vs ds a₁ f₁ v₂ p₂ k₂ mₑ told r evs gone made 
 
 -- ---- arc extrude
 
-pub arc-extrude-steps : (m : Mesh) (x : ℕ) (move : Move) (b a : ℕ) (old₁ place₁ old₂ place₂ : Position) (c d y : ℕ) (v₁ : Table) (p₁ : List (List Float)) (k₁ : List ℕ) (v₂ : Table) (p₂ : List (List Float)) (k₂ : List ℕ) (v₃ a₃ e₃ : Table) (k₃ : List ℕ) (mₑ : Mesh) (told r : Answer)
+pub arc-extrude-steps : (m : Mesh) (x : ℕ) (move : Move) (b a : ℕ) (old₁ place₁ old₂ place₂ : Position) (c d : ℕ) (v₁ : Table) (p₁ : List (List Float)) (k₁ : List ℕ) (v₂ : Table) (p₂ : List (List Float)) (k₂ : List ℕ) (mₑ : Mesh) (told r : Answer)
     → b ≡ dest m x → a ≡ source m x
     → old₁ ≡ positionAt (m .positions) b → place₁ ≡ moved old₁ move → c ≡ freeRow (m .vertices) → mesh v₁ p₁ (m .arcs) (m .edges) (m .faces) k₁ ≡ newVertex m place₁
     → old₂ ≡ positionAt p₁ a → place₂ ≡ moved old₂ move → d ≡ freeRow v₁ → mesh v₂ p₂ (m .arcs) (m .edges) (m .faces) k₂ ≡ newVertex (mesh v₁ p₁ (m .arcs) (m .edges) (m .faces) k₁) place₂
-    → mesh v₃ p₂ a₃ e₃ (m .faces) k₃ ≡ getOrInsertEdge (mesh v₂ p₂ (m .arcs) (m .edges) (m .faces) k₂) c d → y ≡ arcBetween a₃ c d
-    → step mₑ told ≡ arcBridge (mesh v₃ p₂ a₃ e₃ (m .faces) k₃) x y
+    → step mₑ told ≡ joinedBy (mesh v₂ p₂ (m .arcs) (m .edges) (m .faces) k₂) x c d
     → step mₑ r ≡ answering (Arc (nextKey m vertexKind) (getD k₁ 0 0)) (step mₑ told)
     → step mₑ r ≡ arcExtrudeWork m x move
-unfolding arcExtrudeWork
-arc-extrude-steps m x move b a old₁ place₁ old₂ place₂ c d y v₁ p₁ k₁ v₂ p₂ k₂ v₃ a₃ e₃ k₃ mₑ told r eb ea eo₁ ep₁ ec made₁ eo₂ ep₂ ed made₂ edged found bridged whole =
+unfolding arcExtrudeWork joinedBy
+arc-extrude-steps m x move b a old₁ place₁ old₂ place₂ c d v₁ p₁ k₁ v₂ p₂ k₂ mₑ told r eb ea eo₁ ep₁ ec made₁ eo₂ ep₂ ed made₂ joined whole =
     let m₁ : Mesh = mesh v₁ p₁ (m .arcs) (m .edges) (m .faces) k₁ in
     let n₁ : m₁ ≡ newVertex m (movedPosition m move (dest m x)) = made₁ ∙ ap (newVertex m) (moved-is m move b old₁ place₁ eo₁ ep₁ ∙ ap (movedPosition m move) eb) in
     let n₂ : mesh v₂ p₂ (m .arcs) (m .edges) (m .faces) k₂ ≡ newVertex m₁ (movedPosition m₁ move (source m x)) = made₂ ∙ ap (newVertex m₁) (moved-is m₁ move a old₂ place₂ eo₂ ep₂ ∙ ap (movedPosition m₁ move) ea) in
-    rw (← n₁, ← n₂, ← ed, ← ec, ← edged, ← found, ← bridged) whole
+    rw (← n₁, ← n₂, ← ed, ← ec, ← joined) whole

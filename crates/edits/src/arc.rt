@@ -2,7 +2,12 @@
 // among their pairs that has a face, 5; then insert with mark 0", and rule 10: "c is b moved, d is a moved, made in that order; then edge
 // (c,d), then arc bridge of (a,b) and (c,d); the answer is (c,d)."
 
+use crate::near;
+use crate::near::Around;
 use crate::pieces;
+use edges::free::Lowest;
+use pairs::MARKS;
+use pairs::near::NEAR;
 use rules::Answer;
 use rules::ArcRow;
 use rules::EdgeRow;
@@ -22,6 +27,8 @@ ghost use Rattle.rules.specs.Step.{step};
 ghost use Rattle.rules.specs.Edit.{arcBridgeWork, arcBridge};
 ghost use Rattle.rules.specs.Extrude.{arcExtrudeWork};
 ghost use Rattle.checks.specs.Between.{oneOf, otherOf};
+ghost use Rattle.edits.specs.Each.{joinedBy};
+ghost use Rattle.edits.specs.Known.{Known};
 
 // The mark of a face that bridges.
 const NO_MARK: u32 = 0;
@@ -42,6 +49,7 @@ pub fn arc_bridge_work(
 {
     let told = checks::bridge::corners_between(arcs, four);
     let key = counters[2];
+    let from = Lowest { arc: 0, edge: 0 };
     insert::face::insert_by(
         vertices,
         arcs,
@@ -52,6 +60,7 @@ pub fn arc_bridge_work(
         pastedges,
         told.per,
         told.found,
+        from,
         NO_MARK,
     );
     Answer::Key(key)
@@ -66,21 +75,27 @@ pub fn arc_bridge(
     counters: &mut [u32; 3],
     past: &mut [ArcRow],
     pastedges: &mut [EdgeRow],
+    seen: &[bool; MARKS],
+    near: &[u32; NEAR],
+    around: Around,
     x: u32,
     y: u32,
 ) -> Answer
     requires { ⌜ (length (now past) ≡ length (now arcs)) × (length (now pastedges) ≡ length (now edges)) ⌝ }
+    requires { ⌜ Known (now arcs) (now edges) (now seen) (now near) around ⌝ }
     ensures { λ r. ⌜ ((p : List (List Float)) → step (mesh (now (vertices .exit)) p (now (arcs .exit)) (now (edges .exit)) (now (faces .exit)) (now (counters .exit))) r ≡ arcBridge (mesh (now (vertices .entry)) p (now (arcs .entry)) (now (edges .entry)) (now (faces .entry)) (now (counters .entry))) x y) ⌝ }
 {
     let four = checks::bridge::corners_of(arcs, x, y);
     let per = checks::bridge::corner_list(four);
     lists::known_few(per);
-    let found = pairs::perimeter_arcs(arcs, per);
+    let by = around.by;
+    let found = pairs::near::perimeter_arcs_near(arcs, per, seen, near, by);
     let check = checks::bridge::arc_bridge_checks_by(arcs, per, found, x, y);
     if !answers::accepted(check) {
         return check;
     }
     let key = counters[2];
+    let from = around.from;
     insert::face::insert_by(
         vertices,
         arcs,
@@ -91,9 +106,50 @@ pub fn arc_bridge(
         pastedges,
         per,
         found,
+        from,
         NO_MARK,
     );
     Answer::Key(key)
+}
+
+// The edge (c,d), then arc bridge of x = (a,b) and (c,d), by one list of the arcs near these four.
+fn joined(
+    vertices: &mut [VertexRow],
+    arcs: &mut [ArcRow],
+    edges: &mut [EdgeRow],
+    faces: &mut [FaceRow],
+    counters: &mut [u32; 3],
+    past: &mut [ArcRow],
+    pastedges: &mut [EdgeRow],
+    x: u32,
+    a: u32,
+    b: u32,
+    c: u32,
+    d: u32,
+) -> Answer
+    requires { ⌜ (length (now past) ≡ length (now arcs)) × (length (now pastedges) ≡ length (now edges)) ⌝ }
+    ensures { λ r. ⌜ ((p : List (List Float)) → step (mesh (now (vertices .exit)) p (now (arcs .exit)) (now (edges .exit)) (now (faces .exit)) (now (counters .exit))) r ≡ joinedBy (mesh (now (vertices .entry)) p (now (arcs .entry)) (now (edges .entry)) (now (faces .entry)) (now (counters .entry))) x c d) ⌝ }
+{
+    let mut seen = [false; MARKS];
+    let mut links = [0u32; NEAR];
+    let one = near::two(a, b);
+    let other = near::two(c, d);
+    let around = near::near_edit(&mut seen, &mut links, arcs, edges, one, other, 4);
+    let y = near::edge_near(vertices, arcs, edges, counters, &seen, &links, around, c, d);
+    arc_bridge(
+        vertices,
+        arcs,
+        edges,
+        faces,
+        counters,
+        past,
+        pastedges,
+        &seen,
+        &links,
+        around,
+        x,
+        y,
+    )
 }
 
 pub fn arc_extrude_work(
@@ -119,9 +175,7 @@ pub fn arc_extrude_work(
     let second = counters[0];
     let other = points::moved(points::position_at(positions, a), by);
     let d = edges::vertex::new_vertex(vertices, positions, counters, other);
-    edges::edge::get_or_insert_edge(vertices, arcs, edges, counters, c, d);
-    let y = rows::find_arc(arcs, c, d);
-    let told = arc_bridge(
+    let told = joined(
         vertices,
         arcs,
         edges,
@@ -130,7 +184,10 @@ pub fn arc_extrude_work(
         past,
         pastedges,
         x,
-        y,
+        a,
+        b,
+        c,
+        d,
     );
     pieces::answering(Answer::Arc(first, second), told)
 }

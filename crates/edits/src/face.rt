@@ -1,5 +1,9 @@
-// A face insert with its checks, as the other edits use it in mid-edit. Document 01's rule 5. The perimeter's arcs are found once, for both.
+// A face insert with its checks, as the other edits use it in mid-edit. Document 01's rule 5. The perimeter's arcs are found once, for both, in the
+// list of arcs near the edit.
 
+use crate::near::Around;
+use pairs::MARKS;
+use pairs::near::NEAR;
 use rules::Answer;
 use rules::ArcRow;
 use rules::EdgeRow;
@@ -14,6 +18,7 @@ ghost use lib.Ieee.{Float};
 ghost use Rattle.rules.specs.Mesh.{mesh, listOf};
 ghost use Rattle.rules.specs.Step.{step};
 ghost use Rattle.rules.specs.Insert.{insertFace};
+ghost use Rattle.edits.specs.Known.{Known};
 
 pub fn insert_face(
     vertices: &mut [VertexRow],
@@ -23,19 +28,25 @@ pub fn insert_face(
     counters: &mut [u32; 3],
     past: &mut [ArcRow],
     pastedges: &mut [EdgeRow],
+    seen: &[bool; MARKS],
+    near: &[u32; NEAR],
+    around: Around,
     per: Links,
     mark: u32,
 ) -> Answer
     requires { ⌜ (length (now past) ≡ length (now arcs)) × (length (now pastedges) ≡ length (now edges)) ⌝ }
+    requires { ⌜ Known (now arcs) (now edges) (now seen) (now near) around ⌝ }
     ensures { λ r. ⌜ ((p : List (List Float)) → step (mesh (now (vertices .exit)) p (now (arcs .exit)) (now (edges .exit)) (now (faces .exit)) (now (counters .exit))) r ≡ insertFace (mesh (now (vertices .entry)) p (now (arcs .entry)) (now (edges .entry)) (now (faces .entry)) (now (counters .entry))) (listOf per) mark) ⌝ }
 {
     lists::known_few(per);
-    let found = pairs::perimeter_arcs(arcs, per);
+    let by = around.by;
+    let found = pairs::near::perimeter_arcs_near(arcs, per, seen, near, by);
     let check = checks::insert::insert_checks_by(arcs, found, per, per);
     if !answers::accepted(check) {
         return check;
     }
     let key = counters[2];
+    let from = around.from;
     insert::face::insert_by(
         vertices,
         arcs,
@@ -46,6 +57,7 @@ pub fn insert_face(
         pastedges,
         per,
         found,
+        from,
         mark,
     );
     Answer::Key(key)

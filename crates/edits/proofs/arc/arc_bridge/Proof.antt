@@ -23,20 +23,20 @@ corner-list-requires c κs = search needs
 known-few-requires : tie.Need-known-few-requires
 known-few-requires c κs = search needs
 
-perimeter-arcs-requires : tie.Need-perimeter-arcs-requires
-perimeter-arcs-requires c κs = search needs
+perimeter-arcs-near-requires : tie.Need-perimeter-arcs-near-requires
+perimeter-arcs-near-requires c κs = c .before .before .before .before .before .before .pre .1 .listed
 
 -- the arcs of the corners' pairs, as they are found
-held : (c : tie.After-perimeter-arcs) → let a = c .before .before .before .before .before .before .args in listOf (c .perimeter-arcs .result) ≡ arcsOf (a .arcs .now) (listOf (c .before .before .before .corner-list .result))
+held : (c : tie.After-perimeter-arcs-near) → let a = c .before .before .before .before .before .before .before .args in listOf (c .perimeter-arcs-near .result) ≡ arcsOf (a .arcs .now) (listOf (c .before .before .before .before .corner-list .result))
 held c =
-    let a = c .before .before .before .before .before .before .args in
-    arcs-held (a .arcs .now) (listOf (c .before .before .before .corner-list .result)) (c .perimeter-arcs .result) (c .before .before .known-few .ensures) (c .perimeter-arcs .ensures)
+    let a = c .before .before .before .before .before .before .before .args in
+    arcs-held (a .arcs .now) (listOf (c .before .before .before .before .corner-list .result)) (c .perimeter-arcs-near .result) (c .before .before .before .known-few .ensures) (c .perimeter-arcs-near .ensures)
 
 arc-bridge-checks-by-requires : tie.Need-arc-bridge-checks-by-requires
 arc-bridge-checks-by-requires c κs =
-    let a = c .before .before .before .before .before .before .before .args in
-    let per = c .before .before .before .before .corner-list in
-    (λ vs ps es fs ks. corners-back (mesh vs ps (a .arcs .now) es fs ks) (a .x) (a .y) (per .result) (per .ensures ∙ ap linksOf (c .before .before .before .before .before .corners-of .ensures vs ps es fs ks)), held (c .before))
+    let a = c .before .before .before .before .before .before .before .before .args in
+    let per = c .before .before .before .before .before .corner-list in
+    (λ vs ps es fs ks. corners-back (mesh vs ps (a .arcs .now) es fs ks) (a .x) (a .y) (per .result) (per .ensures ∙ ap linksOf (c .before .before .before .before .before .before .corners-of .ensures vs ps es fs ks)), held (c .before))
 
 accepted-requires : tie.Need-accepted-requires
 accepted-requires c κs = search needs
@@ -48,7 +48,7 @@ returns : tie.Need-returns
 unfolding arcBridge
 returns c =
     λ p.
-    let a = c .before .before .before .before .before .before .before .before .before .before .args in
+    let a = c .before .before .before .before .before .before .before .before .before .before .before .args in
     let m : Mesh = mesh (a .vertices .now) p (a .arcs .now) (a .edges .now) (a .faces .now) (a .counters .now) in
     let k = c .before .before .arc-bridge-checks-by in
     checked-refused m (arcBridgeWork m (a .x) (a .y)) (k .result) (arcBridgeChecks m (a .x) (a .y)) (k .ensures (a .vertices .now) p (a .edges .now) (a .faces .now) (a .counters .now)) (sym (c .before .accepted .ensures) ∙ not-true _ (c .if1 .taken))
@@ -57,7 +57,9 @@ element-copy-out-key : tie.Need-element-copy-out-key
 element-copy-out-key c = search needs
 
 insert-by-requires : tie.Need-insert-by-requires
-insert-by-requires c κs = (c .before .before .before .before .before .before .before .before .before .before .before .before .before .before .before .before .before .before .pre, held (c .before .before .before .before .before .before .before .before .before .before .before .before))
+insert-by-requires c κs =
+    let s = c .before .before .before .before .before .before .before .before .before .before .before .before .before .before .before .before .before .before .before .before in
+    (s .pre .0, (held (c .before .before .before .before .before .before .before .before .before .before .before .before .before), (s .pre .1 .arcs-used, s .pre .1 .edges-used)))
 
 same-length-2 : tie.Need-same-length-2
 same-length-2 c = c .before .before .before .before .before .before .insert-by .kept .0
@@ -81,15 +83,15 @@ returns-2 : tie.Need-returns-2
 unfolding arcBridge
 returns-2 c =
     λ p.
-    let a = c .before .before .before .before .before .before .before .before .before .before .before .before .before .before .before .before .before .before .before .before .before .before .before .before .before .args in
+    let a = c .before .before .before .before .before .before .before .before .before .before .before .before .before .before .before .before .before .before .before .before .before .before .before .before .before .before .before .args in
     let g = c .before .before .before .before .before .before .insert-by in
-    let k = c .before .before .before .before .before .before .before .before .before .before .before .before .before .before .before .before .before .arc-bridge-checks-by in
-    let four = c .before .before .before .before .before .before .before .before .before .before .before .before .before .before .before .before .before .before .before .before .before .before .before .corners-of in
-    let per = c .before .before .before .before .before .before .before .before .before .before .before .before .before .before .before .before .before .before .before .before .before .before .corner-list in
+    let k = c .before .before .before .before .before .before .before .before .before .before .before .before .before .before .before .before .before .before .arc-bridge-checks-by in
+    let four = c .before .before .before .before .before .before .before .before .before .before .before .before .before .before .before .before .before .before .before .before .before .before .before .before .before .corners-of in
+    let per = c .before .before .before .before .before .before .before .before .before .before .before .before .before .before .before .before .before .before .before .before .before .before .before .before .corner-list in
     let m : Mesh = mesh (a .vertices .now) p (a .arcs .now) (a .edges .now) (a .faces .now) (a .counters .now) in
     let m′ : Mesh = mesh (g .last .0) p (g .last .1 .0) (g .last .1 .1 .0) (g .last .1 .1 .1 .0) (g .last .1 .1 .1 .1 .0) in
     let done : step m′ (Key (getD (a .counters .now) 2 0)) ≡ arcBridgeWork m (a .x) (a .y) = arc-bridged m m′ (a .x) (a .y) (four .result) (per .result) (getD (a .counters .now) 2 0) (per .ensures) (four .ensures (a .vertices .now) p (a .edges .now) (a .faces .now) (a .counters .now)) refl (g .ensures p) in
-    checked-done m (arcBridgeWork m (a .x) (a .y)) (k .result) (arcBridgeChecks m (a .x) (a .y)) (step m′ (Key (getD (a .counters .now) 2 0))) (k .ensures (a .vertices .now) p (a .edges .now) (a .faces .now) (a .counters .now)) (sym (c .before .before .before .before .before .before .before .before .before .before .before .before .before .before .before .before .accepted .ensures) ∙ not-false _ (c .before .before .before .before .before .before .before .before .before .before .before .before .before .before .before .if1 .left)) done
+    checked-done m (arcBridgeWork m (a .x) (a .y)) (k .result) (arcBridgeChecks m (a .x) (a .y)) (step m′ (Key (getD (a .counters .now) 2 0))) (k .ensures (a .vertices .now) p (a .edges .now) (a .faces .now) (a .counters .now)) (sym (c .before .before .before .before .before .before .before .before .before .before .before .before .before .before .before .before .before .accepted .ensures) ∙ not-false _ (c .before .before .before .before .before .before .before .before .before .before .before .before .before .before .before .before .if1 .left)) done
 
 pub arc-bridge-spec : {M : Type 1} → statement M
 arc-bridge-spec =
@@ -98,7 +100,7 @@ arc-bridge-spec =
     corners-of-requires
     corner-list-requires
     known-few-requires
-    perimeter-arcs-requires
+    perimeter-arcs-near-requires
     arc-bridge-checks-by-requires
     accepted-requires
     same-length

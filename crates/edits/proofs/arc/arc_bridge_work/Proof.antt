@@ -2,6 +2,7 @@ use mathlib.Core.Path.{refl, _∙_}
 use lib.ListN.{getD}
 use Rattle.rules.specs.Mesh.{Mesh, mesh}
 use Rattle.rules.specs.Edit.{arcBridgeWork}
+use Rattle.edges.proofs.Searches.{used-none}
 use Rattle.edits.proofs.Whole.{corners-bridged}
 use borrow.Author.Needs.{needs}
 use Rattle.edits.proofs.arc.arc_bridge_work.Statement.{statement}
@@ -14,7 +15,9 @@ element-copy-out-key : tie.Need-element-copy-out-key
 element-copy-out-key c = search needs
 
 insert-by-requires : tie.Need-insert-by-requires
-insert-by-requires c κs = search needs
+insert-by-requires c κs =
+    let s = c .before .before .before .before .before .before .before .before .before .before in
+    (s .pre, (c .before .before .before .before .before .before .before .before .corners-between .ensures .0 .found, (used-none (s .args .arcs .now), used-none (s .args .edges .now))))
 
 same-length : tie.Need-same-length
 same-length c = c .before .before .before .before .before .before .insert-by .kept .0

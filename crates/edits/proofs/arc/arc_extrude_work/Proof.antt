@@ -1,4 +1,4 @@
-use mathlib.Core.Path.{sym, _∙_}
+use mathlib.Core.Path.{_∙_}
 use mathlib.Core.List.{List}
 use lib.Ieee.{Float}
 use Rattle.rules.specs.Mesh.{Mesh, mesh}
@@ -37,50 +37,43 @@ moved-requires-2 c κs = search needs
 new-vertex-requires-2 : tie.Need-new-vertex-requires-2
 new-vertex-requires-2 c κs = search needs
 
-get-or-insert-edge-requires : tie.Need-get-or-insert-edge-requires
-get-or-insert-edge-requires c κs = search needs
-
-find-arc-requires : tie.Need-find-arc-requires
-find-arc-requires c κs = search needs
-
-arc-bridge-requires : tie.Need-arc-bridge-requires
-arc-bridge-requires c κs = (c .before .before .before .before .before .before .before .before .before .before .before .before .before .before .before .before .before .before .before .before .before .before .before .before .before .before .before .before .before .before .before .before .before .before .before .before .before .before .before .before .before .pre .0 ∙ sym (c .before .before .before .before .before .before .before .before .before .before .before .before .get-or-insert-edge .kept .1 .0), c .before .before .before .before .before .before .before .before .before .before .before .before .before .before .before .before .before .before .before .before .before .before .before .before .before .before .before .before .before .before .before .before .before .before .before .before .before .before .before .before .before .pre .1 ∙ sym (c .before .before .before .before .before .before .before .before .before .before .before .before .get-or-insert-edge .kept .1 .1 .0))
+joined-requires : tie.Need-joined-requires
+joined-requires c κs = c .before .before .before .before .before .before .before .before .before .before .before .before .before .before .before .before .before .before .before .before .before .before .before .before .before .before .before .before .before .before .before .pre
 
 answering-requires : tie.Need-answering-requires
 answering-requires c κs = search needs
 
 same-length : tie.Need-same-length
-same-length c = c .before .before .before .before .before .before .before .arc-bridge .kept .0 ∙ c .before .before .before .before .before .before .before .before .before .before .before .before .before .before .before .before .before .before .before .before .get-or-insert-edge .kept .0 ∙ c .before .before .before .before .before .before .before .before .before .before .before .before .before .before .before .before .before .before .before .before .before .before .before .before .before .before .before .new-vertex2 .kept .0 ∙ c .before .before .before .before .before .before .before .before .before .before .before .before .before .before .before .before .before .before .before .before .before .before .before .before .before .before .before .before .before .before .before .before .before .before .before .before .before .new-vertex .kept .0
+same-length c = c .before .before .before .before .before .before .before .joined .kept .0 ∙ c .before .before .before .before .before .before .before .before .before .before .before .before .before .before .before .before .before .new-vertex2 .kept .0 ∙ c .before .before .before .before .before .before .before .before .before .before .before .before .before .before .before .before .before .before .before .before .before .before .before .before .before .before .before .new-vertex .kept .0
 
 same-length-2 : tie.Need-same-length-2
-same-length-2 c = c .before .before .before .before .before .before .before .before .before .before .before .before .before .before .before .before .before .before .before .before .before .before .before .before .before .before .before .new-vertex2 .kept .1 .0 ∙ c .before .before .before .before .before .before .before .before .before .before .before .before .before .before .before .before .before .before .before .before .before .before .before .before .before .before .before .before .before .before .before .before .before .before .before .before .before .new-vertex .kept .1 .0
+same-length-2 c = c .before .before .before .before .before .before .before .before .before .before .before .before .before .before .before .before .before .new-vertex2 .kept .1 .0 ∙ c .before .before .before .before .before .before .before .before .before .before .before .before .before .before .before .before .before .before .before .before .before .before .before .before .before .before .before .new-vertex .kept .1 .0
 
 same-length-3 : tie.Need-same-length-3
-same-length-3 c = c .before .before .before .before .before .before .before .arc-bridge .kept .1 .0 ∙ c .before .before .before .before .before .before .before .before .before .before .before .before .before .before .before .before .before .before .before .before .get-or-insert-edge .kept .1 .0
+same-length-3 c = c .before .before .before .before .before .before .before .joined .kept .1 .0
 
 same-length-4 : tie.Need-same-length-4
-same-length-4 c = c .before .before .before .before .before .before .before .arc-bridge .kept .1 .1 .0 ∙ c .before .before .before .before .before .before .before .before .before .before .before .before .before .before .before .before .before .before .before .before .get-or-insert-edge .kept .1 .1 .0
+same-length-4 c = c .before .before .before .before .before .before .before .joined .kept .1 .1 .0
 
 same-length-5 : tie.Need-same-length-5
-same-length-5 c = c .before .before .before .before .before .before .before .arc-bridge .kept .1 .1 .1 .0
+same-length-5 c = c .before .before .before .before .before .before .before .joined .kept .1 .1 .1 .0
 
 same-length-6 : tie.Need-same-length-6
-same-length-6 c = c .before .before .before .before .before .before .before .arc-bridge .kept .1 .1 .1 .1 .1 .0
+same-length-6 c = c .before .before .before .before .before .before .before .joined .kept .1 .1 .1 .1 .1 .0
 
 same-length-7 : tie.Need-same-length-7
-same-length-7 c = c .before .before .before .before .before .before .before .arc-bridge .kept .1 .1 .1 .1 .1 .1 .0
+same-length-7 c = c .before .before .before .before .before .before .before .joined .kept .1 .1 .1 .1 .1 .1 .0
 
 returns : tie.Need-returns
 returns c =
-    let a = c .before .before .before .before .before .before .before .before .before .before .before .before .before .before .before .before .before .before .before .before .before .before .before .before .before .before .before .before .before .before .before .before .before .before .before .before .before .before .before .before .before .before .before .before .before .before .before .before .before .args in
-    let n = c .before .before .before .before .before .before .before .before .before .before .before .before .before .before .before .before .before .before .before .before .before .before .before .before .before .before .before .before .before .before .before .before .before .before .before .before .before .new-vertex in
-    let o = c .before .before .before .before .before .before .before .before .before .before .before .before .before .before .before .before .before .before .before .before .before .before .before .before .before .before .before .new-vertex2 in
-    let g = c .before .before .before .before .before .before .before .before .before .before .before .before .before .before .before .before .before .before .before .before .get-or-insert-edge in
-    let t = c .before .before .before .before .before .before .before .arc-bridge in
+    let a = c .before .before .before .before .before .before .before .before .before .before .before .before .before .before .before .before .before .before .before .before .before .before .before .before .before .before .before .before .before .before .before .before .before .before .before .before .before .before .before .args in
+    let n = c .before .before .before .before .before .before .before .before .before .before .before .before .before .before .before .before .before .before .before .before .before .before .before .before .before .before .before .new-vertex in
+    let o = c .before .before .before .before .before .before .before .before .before .before .before .before .before .before .before .before .before .new-vertex2 in
+    let t = c .before .before .before .before .before .before .before .joined in
     let p : List (List Float) = o .last .1 .0 in
     let mₑ : Mesh = mesh (t .last .0) p (t .last .1 .0) (t .last .1 .1 .0) (t .last .1 .1 .1 .0) (t .last .1 .1 .1 .1 .0) in
-    arc-extrude-steps (mesh (a .vertices .now) (a .positions .now) (a .arcs .now) (a .edges .now) (a .faces .now) (a .counters .now)) (a .x) (a .by) (c .before .before .before .before .before .before .before .before .before .before .before .before .before .before .before .before .before .before .before .before .before .before .before .before .before .before .before .before .before .before .before .before .before .before .before .before .before .before .before .before .before .before .before .before .before .before .before .cell6 .result) (c .before .before .before .before .before .before .before .before .before .before .before .before .before .before .before .before .before .before .before .before .before .before .before .before .before .before .before .before .before .before .before .before .before .before .before .before .before .before .before .before .before .before .before .before .before .cell62 .result) (c .before .before .before .before .before .before .before .before .before .before .before .before .before .before .before .before .before .before .before .before .before .before .before .before .before .before .before .before .before .before .before .before .before .before .before .before .before .before .before .before .before .before .position-at .result) (c .before .before .before .before .before .before .before .before .before .before .before .before .before .before .before .before .before .before .before .before .before .before .before .before .before .before .before .before .before .before .before .before .before .before .before .before .before .before .before .before .before .moved .result) (c .before .before .before .before .before .before .before .before .before .before .before .before .before .before .before .before .before .before .before .before .before .before .before .before .before .before .before .before .before .before .before .before .position-at2 .result) (c .before .before .before .before .before .before .before .before .before .before .before .before .before .before .before .before .before .before .before .before .before .before .before .before .before .before .before .before .before .before .before .moved2 .result) (n .result) (o .result) (c .before .before .before .before .before .before .before .before .before .before .before .before .before .before .before .find-arc .result) (n .last .0) (n .last .1 .0) (n .last .1 .1 .0) (o .last .0) (o .last .1 .0) (o .last .1 .1 .0) (g .last .0) (g .last .1 .0) (g .last .1 .1 .0) (g .last .1 .1 .1 .0) mₑ (t .result) (c .answering .result)
-    (c .before .before .before .before .before .before .before .before .before .before .before .before .before .before .before .before .before .before .before .before .before .before .before .before .before .before .before .before .before .before .before .before .before .before .before .before .before .before .before .before .before .before .before .before .before .before .before .cell6 .ensures) (c .before .before .before .before .before .before .before .before .before .before .before .before .before .before .before .before .before .before .before .before .before .before .before .before .before .before .before .before .before .before .before .before .before .before .before .before .before .before .before .before .before .before .before .before .before .cell62 .ensures) (c .before .before .before .before .before .before .before .before .before .before .before .before .before .before .before .before .before .before .before .before .before .before .before .before .before .before .before .before .before .before .before .before .before .before .before .before .before .before .before .before .before .before .position-at .ensures) (c .before .before .before .before .before .before .before .before .before .before .before .before .before .before .before .before .before .before .before .before .before .before .before .before .before .before .before .before .before .before .before .before .before .before .before .before .before .before .before .before .before .moved .ensures) (n .ensures .0) (n .ensures .1 (a .arcs .now) (a .edges .now) (a .faces .now)) (c .before .before .before .before .before .before .before .before .before .before .before .before .before .before .before .before .before .before .before .before .before .before .before .before .before .before .before .before .before .before .before .before .position-at2 .ensures) (c .before .before .before .before .before .before .before .before .before .before .before .before .before .before .before .before .before .before .before .before .before .before .before .before .before .before .before .before .before .before .before .moved2 .ensures) (o .ensures .0) (o .ensures .1 (a .arcs .now) (a .edges .now) (a .faces .now)) (g .ensures p (a .faces .now)) (c .before .before .before .before .before .before .before .before .before .before .before .before .before .before .before .find-arc .ensures) (t .ensures p) (c .answering .ensures mₑ)
+    arc-extrude-steps (mesh (a .vertices .now) (a .positions .now) (a .arcs .now) (a .edges .now) (a .faces .now) (a .counters .now)) (a .x) (a .by) (c .before .before .before .before .before .before .before .before .before .before .before .before .before .before .before .before .before .before .before .before .before .before .before .before .before .before .before .before .before .before .before .before .before .before .before .before .before .cell6 .result) (c .before .before .before .before .before .before .before .before .before .before .before .before .before .before .before .before .before .before .before .before .before .before .before .before .before .before .before .before .before .before .before .before .before .before .before .cell62 .result) (c .before .before .before .before .before .before .before .before .before .before .before .before .before .before .before .before .before .before .before .before .before .before .before .before .before .before .before .before .before .before .before .before .position-at .result) (c .before .before .before .before .before .before .before .before .before .before .before .before .before .before .before .before .before .before .before .before .before .before .before .before .before .before .before .before .before .before .before .moved .result) (c .before .before .before .before .before .before .before .before .before .before .before .before .before .before .before .before .before .before .before .before .before .before .position-at2 .result) (c .before .before .before .before .before .before .before .before .before .before .before .before .before .before .before .before .before .before .before .before .before .moved2 .result) (n .result) (o .result) (n .last .0) (n .last .1 .0) (n .last .1 .1 .0) (o .last .0) (o .last .1 .0) (o .last .1 .1 .0) mₑ (t .result) (c .answering .result)
+    (c .before .before .before .before .before .before .before .before .before .before .before .before .before .before .before .before .before .before .before .before .before .before .before .before .before .before .before .before .before .before .before .before .before .before .before .before .before .cell6 .ensures) (c .before .before .before .before .before .before .before .before .before .before .before .before .before .before .before .before .before .before .before .before .before .before .before .before .before .before .before .before .before .before .before .before .before .before .before .cell62 .ensures) (c .before .before .before .before .before .before .before .before .before .before .before .before .before .before .before .before .before .before .before .before .before .before .before .before .before .before .before .before .before .before .before .before .position-at .ensures) (c .before .before .before .before .before .before .before .before .before .before .before .before .before .before .before .before .before .before .before .before .before .before .before .before .before .before .before .before .before .before .before .moved .ensures) (n .ensures .0) (n .ensures .1 (a .arcs .now) (a .edges .now) (a .faces .now)) (c .before .before .before .before .before .before .before .before .before .before .before .before .before .before .before .before .before .before .before .before .before .before .position-at2 .ensures) (c .before .before .before .before .before .before .before .before .before .before .before .before .before .before .before .before .before .before .before .before .before .moved2 .ensures) (o .ensures .0) (o .ensures .1 (a .arcs .now) (a .edges .now) (a .faces .now)) (t .ensures p) (c .answering .ensures mₑ)
 
 pub arc-extrude-work-spec : {M : Type 1} → statement M
 arc-extrude-work-spec =
@@ -96,9 +89,7 @@ arc-extrude-work-spec =
     position-at-requires-2
     moved-requires-2
     new-vertex-requires-2
-    get-or-insert-edge-requires
-    find-arc-requires
-    arc-bridge-requires
+    joined-requires
     answering-requires
     same-length
     same-length-2

@@ -12,14 +12,14 @@ use Rattle.edits.proofs.face.insert_face.Tie as tie
 known-few-requires : tie.Need-known-few-requires
 known-few-requires c κs = search needs
 
-perimeter-arcs-requires : tie.Need-perimeter-arcs-requires
-perimeter-arcs-requires c κs = search needs
+perimeter-arcs-near-requires : tie.Need-perimeter-arcs-near-requires
+perimeter-arcs-near-requires c κs = c .before .before .before .pre .1 .listed
 
 -- the perimeter's arcs, as they are found
-held : (c : tie.After-perimeter-arcs) → let a = c .before .before .before .args in listOf (c .perimeter-arcs .result) ≡ arcsOf (a .arcs .now) (listOf (a .per))
+held : (c : tie.After-perimeter-arcs-near) → let a = c .before .before .before .before .args in listOf (c .perimeter-arcs-near .result) ≡ arcsOf (a .arcs .now) (listOf (a .per))
 held c =
-    let a = c .before .before .before .args in
-    arcs-held (a .arcs .now) (listOf (a .per)) (c .perimeter-arcs .result) (c .before .before .known-few .ensures) (c .perimeter-arcs .ensures)
+    let a = c .before .before .before .before .args in
+    arcs-held (a .arcs .now) (listOf (a .per)) (c .perimeter-arcs-near .result) (c .before .before .before .known-few .ensures) (c .perimeter-arcs-near .ensures)
 
 insert-checks-by-requires : tie.Need-insert-checks-by-requires
 insert-checks-by-requires c κs = held (c .before)
@@ -33,7 +33,7 @@ same-length c = search needs
 returns : tie.Need-returns
 returns c =
     λ p.
-    let a = c .before .before .before .before .before .before .before .args in
+    let a = c .before .before .before .before .before .before .before .before .args in
     let k = c .before .before .insert-checks-by in
     insert-refused (mesh (a .vertices .now) p (a .arcs .now) (a .edges .now) (a .faces .now) (a .counters .now)) (listOf (a .per)) (a .mark) (k .result) (k .ensures (a .vertices .now) p (a .edges .now) (a .faces .now) (a .counters .now)) (sym (c .before .accepted .ensures) ∙ not-true _ (c .if1 .taken))
 
@@ -41,7 +41,9 @@ element-copy-out-key : tie.Need-element-copy-out-key
 element-copy-out-key c = search needs
 
 insert-by-requires : tie.Need-insert-by-requires
-insert-by-requires c κs = (c .before .before .before .before .before .before .before .before .before .before .before .before .before .before .before .pre, held (c .before .before .before .before .before .before .before .before .before .before .before .before))
+insert-by-requires c κs =
+    let s = c .before .before .before .before .before .before .before .before .before .before .before .before .before .before .before .before .before in
+    (s .pre .0, (held (c .before .before .before .before .before .before .before .before .before .before .before .before .before), (s .pre .1 .arcs-used, s .pre .1 .edges-used)))
 
 same-length-2 : tie.Need-same-length-2
 same-length-2 c = c .before .before .before .before .before .before .insert-by .kept .0
@@ -64,17 +66,17 @@ same-length-7 c = c .before .before .before .before .before .before .insert-by .
 returns-2 : tie.Need-returns-2
 returns-2 c =
     λ p.
-    let a = c .before .before .before .before .before .before .before .before .before .before .before .before .before .before .before .before .before .before .before .before .before .before .args in
-    let k = c .before .before .before .before .before .before .before .before .before .before .before .before .before .before .before .before .before .insert-checks-by in
+    let a = c .before .before .before .before .before .before .before .before .before .before .before .before .before .before .before .before .before .before .before .before .before .before .before .before .args in
+    let k = c .before .before .before .before .before .before .before .before .before .before .before .before .before .before .before .before .before .before .insert-checks-by in
     let w = c .before .before .before .before .before .before .insert-by in
-    insert-done (mesh (a .vertices .now) p (a .arcs .now) (a .edges .now) (a .faces .now) (a .counters .now)) (mesh (w .last .0) p (w .last .1 .0) (w .last .1 .1 .0) (w .last .1 .1 .1 .0) (w .last .1 .1 .1 .1 .0)) (listOf (a .per)) (a .mark) (k .result) (getD (a .counters .now) 2 0) (k .ensures (a .vertices .now) p (a .edges .now) (a .faces .now) (a .counters .now)) (sym (c .before .before .before .before .before .before .before .before .before .before .before .before .before .before .before .before .accepted .ensures) ∙ not-false _ (c .before .before .before .before .before .before .before .before .before .before .before .before .before .before .before .if1 .left)) refl (w .ensures p)
+    insert-done (mesh (a .vertices .now) p (a .arcs .now) (a .edges .now) (a .faces .now) (a .counters .now)) (mesh (w .last .0) p (w .last .1 .0) (w .last .1 .1 .0) (w .last .1 .1 .1 .0) (w .last .1 .1 .1 .1 .0)) (listOf (a .per)) (a .mark) (k .result) (getD (a .counters .now) 2 0) (k .ensures (a .vertices .now) p (a .edges .now) (a .faces .now) (a .counters .now)) (sym (c .before .before .before .before .before .before .before .before .before .before .before .before .before .before .before .before .before .accepted .ensures) ∙ not-false _ (c .before .before .before .before .before .before .before .before .before .before .before .before .before .before .before .before .if1 .left)) refl (w .ensures p)
 
 pub insert-face-spec : {M : Type 1} → statement M
 insert-face-spec =
     tie.close
     (tie.spec
     known-few-requires
-    perimeter-arcs-requires
+    perimeter-arcs-near-requires
     insert-checks-by-requires
     accepted-requires
     same-length

@@ -1,0 +1,43 @@
+-- `edits::near::near_edit` meets its contract: the list tells of the arcs, and every row before the lowest unused one is used. Assumes nothing.
+use mathlib.Core.Path.{sym, subst}
+use Rattle.edges.specs.Free.{UsedBefore}
+use Rattle.edges.proofs.Searches.{used-none, used-free}
+use borrow.Author.Needs.{needs}
+use Rattle.edits.proofs.near.near_edit.Statement.{statement}
+use Rattle.edits.proofs.near.near_edit.Tie as tie
+
+mark-requires : tie.Need-mark-requires
+mark-requires c κs = search needs
+
+mark-requires-2 : tie.Need-mark-requires-2
+mark-requires-2 c κs = search needs
+
+mul-list-near : tie.Need-mul-list-near
+mul-list-near c = search needs
+
+add-list-near : tie.Need-add-list-near
+add-list-near c = search needs
+
+list-near-requires : tie.Need-list-near-requires
+list-near-requires c κs = search needs
+
+free-edge-requires : tie.Need-free-edge-requires
+free-edge-requires c κs = used-none (c .before .before .before .before .before .before .before .args .edges .now)
+
+returns : tie.Need-returns
+returns c =
+    let edges = c .before .before .before .before .before .before .before .before .args .edges .now in
+    let l = c .before .list-near in
+    record { listed = l .ensures .0; arcs-used = l .ensures .1; edges-used = subst (UsedBefore edges) (sym (c .free-edge .ensures)) (used-free edges) }
+
+pub near-edit-spec : {M : Type 1} → statement M
+near-edit-spec =
+    tie.close
+    (tie.spec
+    mark-requires
+    mark-requires-2
+    mul-list-near
+    add-list-near
+    list-near-requires
+    free-edge-requires
+    returns)
