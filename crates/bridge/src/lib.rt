@@ -2,7 +2,11 @@
 // key 0."
 
 use edits::arc;
+use edits::near;
+use edits::near::Around;
 use edits::pieces;
+use pairs::MARKS;
+use pairs::near::NEAR;
 use rules::Answer;
 use rules::ArcRow;
 use rules::EdgeRow;
@@ -19,6 +23,7 @@ ghost use Rattle.rules.specs.Mesh.{mesh, listOf};
 ghost use Rattle.rules.specs.Step.{step};
 ghost use Rattle.rules.specs.Edit.{arcBridge, bridgeWork};
 ghost use Rattle.edits.specs.Each.{eachIn};
+ghost use Rattle.edits.specs.Known.{Known};
 
 // Each source arc with its destination arc, counted from the end: done, or the first refusal.
 fn pairs_in(
@@ -29,10 +34,14 @@ fn pairs_in(
     counters: &mut [u32; 3],
     past: &mut [ArcRow],
     pastedges: &mut [EdgeRow],
+    seen: &[bool; MARKS],
+    near: &[u32; NEAR],
+    around: Around,
     forth: Links,
     back: Links,
 ) -> Answer
     requires { ⌜ (length (now past) ≡ length (now arcs)) × (length (now pastedges) ≡ length (now edges)) ⌝ }
+    requires { ⌜ Known (now arcs) (now edges) (now seen) (now near) around ⌝ }
     ensures { λ r. ⌜ ((p : List (List Float)) → step (mesh (now (vertices .exit)) p (now (arcs .exit)) (now (edges .exit)) (now (faces .exit)) (now (counters .exit))) r ≡ eachIn (λ i a. arcBridge a (getD (listOf forth) i 0) (getD (reverse (listOf back)) i 0)) (length (listOf forth)) (mesh (now (vertices .entry)) p (now (arcs .entry)) (now (edges .entry)) (now (faces .entry)) (now (counters .entry)))) ⌝ }
 {
     let n = lists::size(forth);
@@ -48,6 +57,9 @@ fn pairs_in(
             counters,
             past,
             pastedges,
+            seen,
+            near,
+            around,
             x,
             y,
         );
@@ -57,6 +69,44 @@ fn pairs_in(
         i += 1;
     }
     Answer::Done
+}
+
+// The same, with one list of the arcs near both rings.
+fn pairs_near(
+    vertices: &mut [VertexRow],
+    arcs: &mut [ArcRow],
+    edges: &mut [EdgeRow],
+    faces: &mut [FaceRow],
+    counters: &mut [u32; 3],
+    past: &mut [ArcRow],
+    pastedges: &mut [EdgeRow],
+    forth: Links,
+    back: Links,
+) -> Answer
+    requires { ⌜ (length (now past) ≡ length (now arcs)) × (length (now pastedges) ≡ length (now edges)) ⌝ }
+    ensures { λ r. ⌜ ((p : List (List Float)) → step (mesh (now (vertices .exit)) p (now (arcs .exit)) (now (edges .exit)) (now (faces .exit)) (now (counters .exit))) r ≡ eachIn (λ i a. arcBridge a (getD (listOf forth) i 0) (getD (reverse (listOf back)) i 0)) (length (listOf forth)) (mesh (now (vertices .entry)) p (now (arcs .entry)) (now (edges .entry)) (now (faces .entry)) (now (counters .entry)))) ⌝ }
+{
+    lists::known_few(forth);
+    let made = lists::size(forth);
+    let ours = near::sources(arcs, forth);
+    let theirs = near::sources(arcs, back);
+    let mut seen = [false; MARKS];
+    let mut links = [0u32; NEAR];
+    let around = near::near_edit(&mut seen, &mut links, arcs, edges, ours, theirs, made);
+    pairs_in(
+        vertices,
+        arcs,
+        edges,
+        faces,
+        counters,
+        past,
+        pastedges,
+        &seen,
+        &links,
+        around,
+        forth,
+        back,
+    )
 }
 
 pub fn bridge_work(
@@ -77,7 +127,7 @@ pub fn bridge_work(
     let back = checks::rings::ring_of(arcs, faces, g);
     edges::face::remove_face(arcs, faces, f);
     edges::face::remove_face(arcs, faces, g);
-    let told = pairs_in(
+    let told = pairs_near(
         vertices,
         arcs,
         edges,

@@ -2,7 +2,11 @@
 // copies of a and b. Marks 0; the answer is the top face."
 
 use edits::face;
+use edits::near;
+use edits::near::Around;
 use edits::pieces;
+use pairs::MARKS;
+use pairs::near::NEAR;
 use rules::Answer;
 use rules::ArcRow;
 use rules::EdgeRow;
@@ -26,6 +30,7 @@ ghost use Rattle.rules.specs.Step.{step, andThen, answering};
 ghost use Rattle.rules.specs.Insert.{insertFace};
 ghost use Rattle.rules.specs.Extrude.{copies, wall, extrudeWork};
 ghost use Rattle.edits.specs.Each.{eachIn};
+ghost use Rattle.edits.specs.Known.{Known};
 
 // Moved copies of the vertices, made in order: their links.
 fn copies_in(
@@ -74,10 +79,14 @@ fn walls_in(
     counters: &mut [u32; 3],
     past: &mut [ArcRow],
     pastedges: &mut [EdgeRow],
+    seen: &[bool; MARKS],
+    near: &[u32; NEAR],
+    around: Around,
     vs: Links,
     ds: Links,
 ) -> Answer
     requires { ⌜ (length (now past) ≡ length (now arcs)) × (length (now pastedges) ≡ length (now edges)) ⌝ }
+    requires { ⌜ Known (now arcs) (now edges) (now seen) (now near) around ⌝ }
     ensures { λ r. ⌜ ((p : List (List Float)) → step (mesh (now (vertices .exit)) p (now (arcs .exit)) (now (edges .exit)) (now (faces .exit)) (now (counters .exit))) r ≡ eachIn (λ i a. insertFace a (wall (listOf vs) (listOf ds) i) 0) (length (listOf vs)) (mesh (now (vertices .entry)) p (now (arcs .entry)) (now (edges .entry)) (now (faces .entry)) (now (counters .entry)))) ⌝ }
 {
     let n = lists::size(vs);
@@ -91,6 +100,9 @@ fn walls_in(
             counters,
             past,
             pastedges,
+            seen,
+            near,
+            around,
             wall_at(vs, ds, i),
             0,
         );
@@ -102,7 +114,7 @@ fn walls_in(
     Answer::Done
 }
 
-// The top face, then the walls: done, or the first refusal.
+// The top face, then the walls, with one list of the arcs near the ring and its copies: done, or the first refusal.
 fn top_and_walls(
     vertices: &mut [VertexRow],
     arcs: &mut [ArcRow],
@@ -117,6 +129,11 @@ fn top_and_walls(
     requires { ⌜ (length (now past) ≡ length (now arcs)) × (length (now pastedges) ≡ length (now edges)) ⌝ }
     ensures { λ r. ⌜ ((p : List (List Float)) → step (mesh (now (vertices .exit)) p (now (arcs .exit)) (now (edges .exit)) (now (faces .exit)) (now (counters .exit))) r ≡ answering Done (upTo (λ i s. andThen s (λ a. insertFace a (wall (listOf vs) (listOf ds) i) 0)) (length (listOf vs)) (insertFace (mesh (now (vertices .entry)) p (now (arcs .entry)) (now (edges .entry)) (now (faces .entry)) (now (counters .entry))) (listOf ds) 0))) ⌝ }
 {
+    lists::known_few(vs);
+    let n = lists::size(vs);
+    let mut seen = [false; MARKS];
+    let mut links = [0u32; NEAR];
+    let around = near::near_edit(&mut seen, &mut links, arcs, edges, vs, ds, 2 * n);
     let top = face::insert_face(
         vertices,
         arcs,
@@ -125,6 +142,9 @@ fn top_and_walls(
         counters,
         past,
         pastedges,
+        &seen,
+        &links,
+        around,
         ds,
         0,
     );
@@ -139,6 +159,9 @@ fn top_and_walls(
         counters,
         past,
         pastedges,
+        &seen,
+        &links,
+        around,
         vs,
         ds,
     )

@@ -1,7 +1,11 @@
 // Poke. Document 01's rule 7: "Remove, new vertex c, then (a, b, c) for each ring pair. Marks are copied; the answer is c."
 
 use edits::face;
+use edits::near;
+use edits::near::Around;
 use edits::pieces;
+use pairs::MARKS;
+use pairs::near::NEAR;
 use rules::Answer;
 use rules::ArcRow;
 use rules::EdgeRow;
@@ -24,6 +28,7 @@ ghost use Rattle.rules.specs.Step.{step};
 ghost use Rattle.rules.specs.Insert.{insertFace};
 ghost use Rattle.rules.specs.Edit.{pokeWork};
 ghost use Rattle.edits.specs.Each.{eachIn};
+ghost use Rattle.edits.specs.Known.{Known};
 
 // The three corners of a part: ring pair i and the new vertex.
 fn part(vs: Links, i: usize, c: u32) -> Links
@@ -47,11 +52,15 @@ fn parts_in(
     counters: &mut [u32; 3],
     past: &mut [ArcRow],
     pastedges: &mut [EdgeRow],
+    seen: &[bool; MARKS],
+    near: &[u32; NEAR],
+    around: Around,
     vs: Links,
     c: u32,
     mark: u32,
 ) -> Answer
     requires { ⌜ (length (now past) ≡ length (now arcs)) × (length (now pastedges) ≡ length (now edges)) ⌝ }
+    requires { ⌜ Known (now arcs) (now edges) (now seen) (now near) around ⌝ }
     ensures { λ r. ⌜ ((p : List (List Float)) → step (mesh (now (vertices .exit)) p (now (arcs .exit)) (now (edges .exit)) (now (faces .exit)) (now (counters .exit))) r ≡ eachIn (λ i a. insertFace a (getD (listOf vs) i 0 ∷ getD (listOf vs) (after (length (listOf vs)) i) 0 ∷ c ∷ []) mark) (length (listOf vs)) (mesh (now (vertices .entry)) p (now (arcs .entry)) (now (edges .entry)) (now (faces .entry)) (now (counters .entry)))) ⌝ }
 {
     let n = lists::size(vs);
@@ -65,6 +74,9 @@ fn parts_in(
             counters,
             past,
             pastedges,
+            seen,
+            near,
+            around,
             part(vs, i, c),
             mark,
         );
@@ -74,6 +86,45 @@ fn parts_in(
         i += 1;
     }
     Answer::Done
+}
+
+// The same, with one list of the arcs near the ring and the new vertex.
+fn parts_near(
+    vertices: &mut [VertexRow],
+    arcs: &mut [ArcRow],
+    edges: &mut [EdgeRow],
+    faces: &mut [FaceRow],
+    counters: &mut [u32; 3],
+    past: &mut [ArcRow],
+    pastedges: &mut [EdgeRow],
+    vs: Links,
+    c: u32,
+    mark: u32,
+) -> Answer
+    requires { ⌜ (length (now past) ≡ length (now arcs)) × (length (now pastedges) ≡ length (now edges)) ⌝ }
+    ensures { λ r. ⌜ ((p : List (List Float)) → step (mesh (now (vertices .exit)) p (now (arcs .exit)) (now (edges .exit)) (now (faces .exit)) (now (counters .exit))) r ≡ eachIn (λ i a. insertFace a (getD (listOf vs) i 0 ∷ getD (listOf vs) (after (length (listOf vs)) i) 0 ∷ c ∷ []) mark) (length (listOf vs)) (mesh (now (vertices .entry)) p (now (arcs .entry)) (now (edges .entry)) (now (faces .entry)) (now (counters .entry)))) ⌝ }
+{
+    lists::known_few(vs);
+    let made = lists::size(vs);
+    let new = near::two(c, c);
+    let mut seen = [false; MARKS];
+    let mut links = [0u32; NEAR];
+    let around = near::near_edit(&mut seen, &mut links, arcs, edges, vs, new, made);
+    parts_in(
+        vertices,
+        arcs,
+        edges,
+        faces,
+        counters,
+        past,
+        pastedges,
+        &seen,
+        &links,
+        around,
+        vs,
+        c,
+        mark,
+    )
 }
 
 pub fn poke_work(
@@ -96,7 +147,7 @@ pub fn poke_work(
     let key = counters[0];
     edges::face::remove_face(arcs, faces, f);
     let c = edges::vertex::new_vertex(vertices, positions, counters, position);
-    let told = parts_in(
+    let told = parts_near(
         vertices,
         arcs,
         edges,

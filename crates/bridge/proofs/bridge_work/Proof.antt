@@ -17,29 +17,29 @@ remove-face-requires c κs = search needs
 remove-face-requires-2 : tie.Need-remove-face-requires-2
 remove-face-requires-2 c κs = search needs
 
-pairs-in-requires : tie.Need-pairs-in-requires
-pairs-in-requires c κs = (c .before .before .before .before .before .before .before .before .before .before .before .before .before .before .before .before .before .before .before .before .before .before .before .pre .0 ∙ sym (c .before .before .before .before .before .before .before .before .before .before .before .before .before .before .remove-face .kept .0) ∙ sym (c .before .before .before .before .before .before .before .before .before .remove-face2 .kept .0), c .before .before .before .before .before .before .before .before .before .before .before .before .before .before .before .before .before .before .before .before .before .before .before .pre .1)
+pairs-near-requires : tie.Need-pairs-near-requires
+pairs-near-requires c κs = (c .before .before .before .before .before .before .before .before .before .before .before .before .before .before .before .before .before .before .before .before .before .before .before .pre .0 ∙ sym (c .before .before .before .before .before .before .before .before .before .before .before .before .before .before .remove-face .kept .0) ∙ sym (c .before .before .before .before .before .before .before .before .before .remove-face2 .kept .0), c .before .before .before .before .before .before .before .before .before .before .before .before .before .before .before .before .before .before .before .before .before .before .before .pre .1)
 
 answering-requires : tie.Need-answering-requires
 answering-requires c κs = search needs
 
 same-length : tie.Need-same-length
-same-length c = c .before .before .before .before .before .before .before .pairs-in .kept .0
+same-length c = c .before .before .before .before .before .before .before .pairs-near .kept .0
 
 same-length-2 : tie.Need-same-length-2
-same-length-2 c = c .before .before .before .before .before .before .before .pairs-in .kept .1 .0 ∙ c .before .before .before .before .before .before .before .before .before .before .before .before .before .before .before .before .before .remove-face2 .kept .0 ∙ c .before .before .before .before .before .before .before .before .before .before .before .before .before .before .before .before .before .before .before .before .before .before .remove-face .kept .0
+same-length-2 c = c .before .before .before .before .before .before .before .pairs-near .kept .1 .0 ∙ c .before .before .before .before .before .before .before .before .before .before .before .before .before .before .before .before .before .remove-face2 .kept .0 ∙ c .before .before .before .before .before .before .before .before .before .before .before .before .before .before .before .before .before .before .before .before .before .before .remove-face .kept .0
 
 same-length-3 : tie.Need-same-length-3
-same-length-3 c = c .before .before .before .before .before .before .before .pairs-in .kept .1 .1 .0
+same-length-3 c = c .before .before .before .before .before .before .before .pairs-near .kept .1 .1 .0
 
 same-length-4 : tie.Need-same-length-4
-same-length-4 c = c .before .before .before .before .before .before .before .pairs-in .kept .1 .1 .1 .0 ∙ c .before .before .before .before .before .before .before .before .before .before .before .before .before .before .before .before .before .remove-face2 .kept .1 .0 ∙ c .before .before .before .before .before .before .before .before .before .before .before .before .before .before .before .before .before .before .before .before .before .before .remove-face .kept .1 .0
+same-length-4 c = c .before .before .before .before .before .before .before .pairs-near .kept .1 .1 .1 .0 ∙ c .before .before .before .before .before .before .before .before .before .before .before .before .before .before .before .before .before .remove-face2 .kept .1 .0 ∙ c .before .before .before .before .before .before .before .before .before .before .before .before .before .before .before .before .before .before .before .before .before .before .remove-face .kept .1 .0
 
 same-length-5 : tie.Need-same-length-5
-same-length-5 c = c .before .before .before .before .before .before .before .pairs-in .kept .1 .1 .1 .1 .1 .0
+same-length-5 c = c .before .before .before .before .before .before .before .pairs-near .kept .1 .1 .1 .1 .1 .0
 
 same-length-6 : tie.Need-same-length-6
-same-length-6 c = c .before .before .before .before .before .before .before .pairs-in .kept .1 .1 .1 .1 .1 .1 .0
+same-length-6 c = c .before .before .before .before .before .before .before .pairs-near .kept .1 .1 .1 .1 .1 .1 .0
 
 returns : tie.Need-returns
 returns c =
@@ -47,7 +47,7 @@ returns c =
     let a = c .before .before .before .before .before .before .before .before .before .before .before .before .before .before .before .before .before .before .before .before .before .before .before .before .before .before .before .before .before .before .before .args in
     let d = c .before .before .before .before .before .before .before .before .before .before .before .before .before .before .before .before .before .before .before .before .before .before .remove-face in
     let e = c .before .before .before .before .before .before .before .before .before .before .before .before .before .before .before .before .before .remove-face2 in
-    let t = c .before .before .before .before .before .before .before .pairs-in in
+    let t = c .before .before .before .before .before .before .before .pairs-near in
     let m : Mesh = mesh (a .vertices .now) p (a .arcs .now) (a .edges .now) (a .faces .now) (a .counters .now) in
     let mₑ : Mesh = mesh (t .last .0) p (t .last .1 .0) (t .last .1 .1 .0) (t .last .1 .1 .1 .0) (t .last .1 .1 .1 .1 .0) in
     bridge-steps m (a .f) (a .g) (c .before .before .before .before .before .before .before .before .before .before .before .before .before .before .before .before .before .before .before .before .before .before .before .before .before .before .before .before .ring-of .result) (c .before .before .before .before .before .before .before .before .before .before .before .before .before .before .before .before .before .before .before .before .before .before .before .before .before .ring-of2 .result) (d .last .0) (d .last .1 .0) (e .last .0) (e .last .1 .0) mₑ (t .result) (c .answering .result) (c .before .before .before .before .before .before .before .before .before .before .before .before .before .before .before .before .before .before .before .before .before .before .before .before .before .before .before .before .ring-of .ensures (a .vertices .now) p (a .edges .now) (a .counters .now)) (c .before .before .before .before .before .before .before .before .before .before .before .before .before .before .before .before .before .before .before .before .before .before .before .before .before .ring-of2 .ensures (a .vertices .now) p (a .edges .now) (a .counters .now)) (d .ensures (a .vertices .now) p (a .edges .now) (a .counters .now)) (e .ensures (a .vertices .now) p (a .edges .now) (a .counters .now)) (t .ensures p) (c .answering .ensures mₑ)
@@ -60,7 +60,7 @@ bridge-work-spec =
     ring-of-requires-2
     remove-face-requires
     remove-face-requires-2
-    pairs-in-requires
+    pairs-near-requires
     answering-requires
     same-length
     same-length-2
