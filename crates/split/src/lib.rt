@@ -1,7 +1,13 @@
 // Split. Document 01's rule 6: "Left runs s to d, right d to s; both are checked after removal, left is put in first. The answer is arc
-// (s,d). Both marks are 0." The lists of both halves are taken after the removal, before the left half is in.
+// (s,d). Both marks are 0." The lists of both halves are taken after the removal, before the left half is in;
+// so is one list of the arcs near them, for the checks and the edges of both.
 
+use edits::near;
+use edits::near::Around;
 use edits::pieces;
+use pairs::MARKS;
+use pairs::near::NEAR;
+use pairs::near::Nearby;
 use rules::Answer;
 use rules::ArcRow;
 use rules::EdgeRow;
@@ -16,14 +22,16 @@ ghost use mathlib.Core.Path.{_≡_};
 ghost use mathlib.Core.Bool.{true};
 ghost use mathlib.Core.List.{List};
 ghost use Prim.Native.Nat.{ℕ, _≤_};
-ghost use lib.ListN.{length};
+ghost use lib.ListN.{length, take};
 ghost use lib.Ieee.{Float};
-ghost use Rattle.rules.specs.Table.{count, used};
+ghost use Rattle.rules.specs.Table.{Table, count, used};
 ghost use Rattle.rules.specs.Mesh.{mesh, listOf};
 ghost use Rattle.rules.specs.Step.{step};
-ghost use Rattle.rules.specs.Insert.{putFace, listsOf};
+ghost use Rattle.rules.specs.Insert.{insertChecks, putFace, listsOf};
 ghost use Rattle.rules.specs.Edit.{splitWork};
+ghost use Rattle.pairs.specs.Near.{Near};
 ghost use Rattle.insert.specs.Perimeter.{listsFrom, Taken};
+ghost use Rattle.edits.specs.Known.{Known};
 
 // Both halves put in by lists walked in copies of the tables: left first.
 fn halves_copied(
@@ -102,17 +110,34 @@ fn halves_taken(
     counters: &mut [u32; 3],
     ours: &[[u32; RING]],
     theirs: &[[u32; RING]],
+    seen: &[bool; MARKS],
+    near: &[u32; NEAR],
+    around: Around,
     left: Links,
     right: Links,
 )
     requires { ⌜ (length (listOf left) ≤ length (now ours)) × (length (listOf right) ≤ length (now theirs)) ⌝ }
+    requires { ⌜ Known (now arcs) (now edges) (now seen) (now near) around ⌝ }
     ensures { λ _. ⌜ ((p : List (List Float)) → mesh (now (vertices .exit)) p (now (arcs .exit)) (now (edges .exit)) (now (faces .exit)) (now (counters .exit)) ≡ putFace (putFace (mesh (now (vertices .entry)) p (now (arcs .entry)) (now (edges .entry)) (now (faces .entry)) (now (counters .entry))) (listOf left) (now (ours .entry)) 0) (listOf right) (now (theirs .entry)) 0) ⌝ }
 {
     lists::known_few(left);
     lists::known_few(right);
-    let first = pairs::perimeter_arcs(arcs, left);
-    insert::face::put_face_taken(vertices, arcs, edges, faces, counters, ours, left, first, 0);
-    let second = pairs::perimeter_arcs(arcs, right);
+    let by = around.by;
+    let from = around.from;
+    let first = pairs::near::perimeter_arcs_near(arcs, left, seen, near, by);
+    insert::face::put_face_taken(
+        vertices,
+        arcs,
+        edges,
+        faces,
+        counters,
+        ours,
+        left,
+        first,
+        from,
+        0,
+    );
+    let second = pairs::near::perimeter_arcs_near(arcs, right, seen, near, by);
     insert::face::put_face_taken(
         vertices,
         arcs,
@@ -122,6 +147,7 @@ fn halves_taken(
         theirs,
         right,
         second,
+        from,
         0,
     );
 }
@@ -135,10 +161,14 @@ fn halves_in(
     counters: &mut [u32; 3],
     past: &mut [ArcRow],
     pastedges: &mut [EdgeRow],
+    seen: &[bool; MARKS],
+    near: &[u32; NEAR],
+    around: Around,
     left: Links,
     right: Links,
 )
     requires { ⌜ (length (now past) ≡ length (now arcs)) × (length (now pastedges) ≡ length (now edges)) ⌝ }
+    requires { ⌜ Known (now arcs) (now edges) (now seen) (now near) around ⌝ }
     ensures { λ _. ⌜ ((p : List (List Float)) → mesh (now (vertices .exit)) p (now (arcs .exit)) (now (edges .exit)) (now (faces .exit)) (now (counters .exit)) ≡ putFace (putFace (mesh (now (vertices .entry)) p (now (arcs .entry)) (now (edges .entry)) (now (faces .entry)) (now (counters .entry))) (listOf left) (listsOf (mesh (now (vertices .entry)) p (now (arcs .entry)) (now (edges .entry)) (now (faces .entry)) (now (counters .entry))) (listOf left)) 0) (listOf right) (listsOf (mesh (now (vertices .entry)) p (now (arcs .entry)) (now (edges .entry)) (now (faces .entry)) (now (counters .entry))) (listOf right)) 0) ⌝ }
 {
     lists::known_few(left);
@@ -156,6 +186,9 @@ fn halves_in(
             counters,
             &ours,
             &theirs,
+            seen,
+            near,
+            around,
             left,
             right,
         );
@@ -172,6 +205,22 @@ fn halves_in(
         left,
         right,
     );
+}
+
+// The checks of a half, whose arcs are looked up in the list.
+fn half_checks(
+    arcs: &[ArcRow],
+    half: Links,
+    seen: &[bool; MARKS],
+    near: &[u32; NEAR],
+    by: Nearby,
+) -> Answer
+    requires { ⌜ Near (now arcs) (now seen) (take (by .len) (now near)) (by .spare) ⌝ }
+    ensures { λ r. ⌜ ((vs : Table) (ps : List (List Float)) (es fs : Table) (ks : List ℕ) → r ≡ insertChecks (mesh vs ps (now (arcs .entry)) es fs ks) (listOf half) (listOf half)) ⌝ }
+{
+    lists::known_few(half);
+    let found = pairs::near::perimeter_arcs_near(arcs, half, seen, near, by);
+    checks::insert::insert_checks_by(arcs, found, half, half)
 }
 
 pub fn split_work(
@@ -193,11 +242,15 @@ pub fn split_work(
     let right = checks::split::half(arcs, faces, f, d, s);
     let told = Answer::Arc(pieces::key_at(vertices, s), pieces::key_at(vertices, d));
     edges::face::remove_face(arcs, faces, f);
-    let check = checks::insert::insert_checks(arcs, left, left);
+    let mut seen = [false; MARKS];
+    let mut links = [0u32; NEAR];
+    let around = near::near_edit(&mut seen, &mut links, arcs, edges, left, right, 1);
+    let by = around.by;
+    let check = half_checks(arcs, left, &seen, &links, by);
     if !answers::accepted(check) {
         return check;
     }
-    let other = checks::insert::insert_checks(arcs, right, right);
+    let other = half_checks(arcs, right, &seen, &links, by);
     if !answers::accepted(other) {
         return other;
     }
@@ -209,6 +262,9 @@ pub fn split_work(
         counters,
         past,
         pastedges,
+        &seen,
+        &links,
+        around,
         left,
         right,
     );

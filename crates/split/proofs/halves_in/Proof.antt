@@ -1,4 +1,5 @@
 -- `split::halves_in` meets its contract: by the rows of the lists that are taken, or by copies of the tables. Assumes nothing.
+use native.Mathlib.Omega.{arith}
 use mathlib.Core.Path.{ap, _∙_}
 use Rattle.rules.specs.Mesh.{Mesh, mesh, listOf}
 use Rattle.rules.specs.Insert.{putFace, listsOf}
@@ -35,7 +36,7 @@ slice-aggregate-halves-taken-2 : tie.Need-slice-aggregate-halves-taken-2
 slice-aggregate-halves-taken-2 c = search needs
 
 halves-taken-requires : tie.Need-halves-taken-requires
-halves-taken-requires c κs = search needs
+halves-taken-requires c κs = ((omega (arith, c .before .before .before .before .before .before .before .before .before .before .before .before .before .before .before .before .before .before .before .before .known-few .ensures, c .before .before .before .before .before .before .before .before .before .before .both-taken .kept .1 .1 .1 .1 .0), omega (arith, c .before .before .before .before .before .before .before .before .before .before .before .before .before .before .before .before .before .before .before .known-few2 .ensures, c .before .before .before .before .before .before .before .before .before .before .both-taken .kept .1 .1 .1 .1 .1 .0)), c .before .before .before .before .before .before .before .before .before .before .before .before .before .before .before .before .before .before .before .before .before .pre .1)
 
 same-length : tie.Need-same-length
 same-length c = search needs
@@ -61,7 +62,7 @@ returns c =
     ∙ taken-put m (listOf (a .right)) (t .last .1 .1 .1 .1 .1 .0) (c .before .before .before .before .before .before .before .before .before .before .before .before .before .before .before .before .before .before .before .before .leading-arcs2 .result) (c .before .before .before .before .before .before .before .before .before .before .before .before .before .before .before .before .before .before .before .before .before .before .before .before .known-few2 .ensures) (c .before .before .before .before .before .before .before .before .before .before .before .before .before .before .before .before .before .before .before .before .leading-arcs2 .ensures) (h .1) (putFace m (listOf (a .left)) (listsOf m (listOf (a .left))) 0) 0
 
 halves-copied-requires : tie.Need-halves-copied-requires
-halves-copied-requires c κs = search needs
+halves-copied-requires c κs = c .before .before .before .before .before .before .before .before .before .before .before .before .before .before .before .before .before .before .before .before .before .pre .0
 
 same-length-5 : tie.Need-same-length-5
 same-length-5 c = search needs
