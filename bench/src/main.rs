@@ -3,7 +3,7 @@
 //! Plexus is timed twice: bare, and as it has to be used for the same promise, that a refused edit has changed nothing and an accepted one
 //! leaves a sound mesh: after the edit all records are read out, document 01's Sound is tested on them, and on a refusal the graph is made
 //! anew from the records of the mesh before it. (A graph of plexus can't be cloned. The records read out after one edit are the copy that the
-//! next one needs, so a call reads out once.) The floor is reading the same tables once, and copying them once.
+//! next one needs, so a call reads out once.) The floor is reading the same tables once, timed in the same turns, and by itself, as copying is.
 //!
 //! Medians, in microseconds, of the processor's time. BENCH_MS (default 150) is the time spent on each figure. Built and run by `make bench`.
 
@@ -108,16 +108,17 @@ fn state(sizes: [usize; 3], fill: &str, cloth: &Cloth) {
         cloth.used()[1],
         cloth.used()[2]
     );
-    println!("| call | answer | this library | / read once | plexus* | library / plexus* | plexus bare |");
-    println!("|---|---|---|---|---|---|---|");
+    println!("| call | answer | this library | read once | library / read once | plexus* | library / plexus* | plexus bare |");
+    println!("|---|---|---|---|---|---|---|---|");
     for (name, asked) in cloth.calls() {
-        row(name, &asked, &mut ours, &mut theirs, read);
+        row(name, &asked, &mut ours, &mut theirs);
     }
 }
 
-/// Times the call on all three in turns, so that what else the machine does falls on all alike.
-fn row(name: &str, asked: &Asked, ours: &mut Ours, theirs: &mut Theirs, read: f64) {
-    let (mut library, mut promised, mut bare) = (vec![], vec![], vec![]);
+/// Times the call on all three in turns, so that what else the machine does falls on all alike. The call of the library and reading the tables
+/// each come after a call of plexus, which drives the tables out of the near cache.
+fn row(name: &str, asked: &Asked, ours: &mut Ours, theirs: &mut Theirs) {
+    let (mut library, mut read, mut promised, mut bare) = (vec![], vec![], vec![], vec![]);
     let mut answers = [0; 2];
     let budget = Budget::new();
     while budget.left(library.len()) {
@@ -130,11 +131,19 @@ fn row(name: &str, asked: &Asked, ours: &mut Ours, theirs: &mut Theirs, read: f6
         if let Some(took) = theirs.bare(asked) {
             bare.push(took);
         }
+        ours.put_back();
+        read.push(time(|| ours.read_once()).1);
+        promised.push(theirs.ask(asked).1);
     }
     assert_eq!(answers[0], answers[1], "{name}: the two answer differently");
-    let (library, promised) = (median(&mut library), median(&mut promised));
+    let (library, read, promised) = (median(&mut library), median(&mut read), median(&mut promised));
     let bare = if bare.is_empty() { "-".into() } else { format!("{:.1}", median(&mut bare)) };
-    println!("| {name} | {} | {library:.1} | {:.1} | {promised:.1} | {:.2} | {bare} |", answers[0], library / read, library / promised);
+    println!(
+        "| {name} | {} | {library:.1} | {read:.1} | {:.1} | {promised:.1} | {:.2} | {bare} |",
+        answers[0],
+        library / read,
+        library / promised
+    );
 }
 
 fn floors(ours: &Ours) -> (f64, f64) {

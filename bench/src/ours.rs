@@ -59,10 +59,15 @@ impl Ours {
         &self.tables
     }
 
-    /// The call's number, and how long it took.
-    pub fn ask(&mut self, asked: &Asked) -> (u32, f64) {
+    /// Puts the mesh back.
+    pub fn put_back(&mut self) {
         put(&self.start, &mut self.tables);
         self.counters = self.start_counters;
+    }
+
+    /// The call's number, and how long it took.
+    pub fn ask(&mut self, asked: &Asked) -> (u32, f64) {
+        self.put_back();
         match asked {
             Asked::Call(call) => self.call(call),
             Asked::Sound => self.check_sound(),
