@@ -9,7 +9,7 @@ use lib.ListN.{getD, set}
 use lib.Dec.{eqb, ltb}
 
 unfoldable pub slotOf : ℕ → ℕ
-slotOf name = name * 73244475 / 4194304 % 16384
+slotOf name = name * 3645161217 / 4194304 % 16384
 
 unfoldable pub slotAfter : ℕ → ℕ
 slotAfter slot = (slot + 1) % 16384

@@ -80,7 +80,7 @@ fn rising(names: &[u32; ROWS], n: usize) -> bool
 fn slot_of(name: u32) -> usize
     ensures { λ r. ⌜ r ≡ slotOf name ⌝ }
 {
-    (name as u64 * 73244475 / 4194304 % 16384) as usize
+    (name as u64 * 3645161217 / 4194304 % 16384) as usize
 }
 
 fn slot_after(slot: usize) -> usize
