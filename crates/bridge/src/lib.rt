@@ -41,7 +41,7 @@ fn pairs_in(
     back: Links,
 ) -> Answer
     requires { ⌜ (length (now past) ≡ length (now arcs)) × (length (now pastedges) ≡ length (now edges)) ⌝ }
-    requires { ⌜ Known (now arcs) (now edges) (now seen) (now near) around ⌝ }
+    requires { ⌜ Known (now arcs) (now edges) (now faces) (now seen) (now near) around ⌝ }
     ensures { λ r. ⌜ ((p : List (List Float)) → step (mesh (now (vertices .exit)) p (now (arcs .exit)) (now (edges .exit)) (now (faces .exit)) (now (counters .exit))) r ≡ eachIn (λ i a. arcBridge a (getD (listOf forth) i 0) (getD (reverse (listOf back)) i 0)) (length (listOf forth)) (mesh (now (vertices .entry)) p (now (arcs .entry)) (now (edges .entry)) (now (faces .entry)) (now (counters .entry)))) ⌝ }
 {
     let n = lists::size(forth);
@@ -92,7 +92,16 @@ fn pairs_near(
     let theirs = near::sources(arcs, back);
     let mut seen = [false; MARKS];
     let mut links = [0u32; NEAR];
-    let around = near::near_edit(&mut seen, &mut links, arcs, edges, ours, theirs, made);
+    let around = near::near_edit(
+        &mut seen,
+        &mut links,
+        arcs,
+        edges,
+        faces,
+        ours,
+        theirs,
+        made,
+    );
     pairs_in(
         vertices,
         arcs,

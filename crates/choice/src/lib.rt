@@ -30,7 +30,7 @@ fn vertex_insert(
     ensures { λ r. ⌜ ((a e f : Table) (ks : List ℕ) → step (mesh (now (vertices .exit)) (now (positions .exit)) a e f (now (counters .exit))) r ≡ Call.work (mesh (now (vertices .entry)) (now (positions .entry)) a e f (now (counters .entry))) (VertexInsert position) ks) ⌝ }
 {
     let key = counters[0];
-    edges::vertex::new_vertex(vertices, positions, counters, position);
+    edges::vertex::new_vertex(vertices, positions, counters, 0, position);
     Answer::Key(key)
 }
 

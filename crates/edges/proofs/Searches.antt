@@ -12,7 +12,8 @@ use lib.Dec.{eqb, leb}
 use borrow.Author.Tests.{eq-eqb, ne-eqb}
 use Rattle.rules.specs.Table.{Table, putRow, unused, firstRow, below, rowLimit, freeRow}
 use Rattle.rules.specs.Mesh.{Mesh}
-use Rattle.rules.specs.Link.{newArc, newEdge}
+use Rattle.rules.specs.declared.Position.{Position}
+use Rattle.rules.specs.Link.{putVertex, newVertex, newArc, newEdge}
 use Rattle.rules.proofs.Counts.{found-passes}
 use Rattle.tables.proofs.Scans.{Missed}
 use Rattle.edges.specs.Free.{UsedBefore, UsedRows}
@@ -101,3 +102,12 @@ module _ (m : Mesh) (a b l : ℕ) where
   pub used-edges : UsedBefore (m .edges) l → UsedBefore (newEdge m a b .edges) l
   unfolding newEdge newArc
   used-edges h = used-kept (m .edges) _ l h
+
+-- ---- a new vertex
+
+-- the next one's row, from this one's on
+pub next-from : (m n : Mesh) (p : Position) (x : ℕ) → x ≡ freeRow (m .vertices) → n ≡ newVertex m p → UsedBefore (n .vertices) x
+unfolding newVertex putVertex
+next-from m n p x ex en =
+    let used : UsedBefore (newVertex m p .vertices) (freeRow (m .vertices)) = used-kept (m .vertices) _ (freeRow (m .vertices)) (used-free (m .vertices)) in
+    subst (UsedBefore (n .vertices)) (sym ex) (subst (λ (o : Mesh). UsedBefore (o .vertices) (freeRow (m .vertices))) (sym en) used)

@@ -2,6 +2,7 @@
 
 use rules::ArcRow;
 use rules::EdgeRow;
+use rules::VertexRow;
 ghost use mathlib.Core.Path.{_≡_};
 ghost use mathlib.Core.Bool.{true};
 ghost use Prim.Native.Nat.{_+_, _≤_};
@@ -9,40 +10,53 @@ ghost use lib.ListN.{length};
 ghost use Rattle.edges.specs.Free.{UsedRows, UsedUpTo};
 
 // Whether the eight rows from i on are used.
-fn used_block3(edges: &[EdgeRow], i: usize) -> bool
-    requires { ⌜ i + 8 ≤ length (now edges) ⌝ }
-    ensures { λ r. ⌜ (r ≡ true → UsedRows (now (edges .entry)) i (i + 8)) ⌝ }
+fn used_block2(rows: &[VertexRow], i: usize) -> bool
+    requires { ⌜ i + 8 ≤ length (now rows) ⌝ }
+    ensures { λ r. ⌜ (r ≡ true → UsedRows (now (rows .entry)) i (i + 8)) ⌝ }
 {
     let mut used = true;
     let mut k: usize = 0;
     while k < 8 {
-        used = used & (edges[i + k][0] != 0);
+        used = used & (rows[i + k][0] != 0);
         k += 1;
     }
     used
 }
 
-fn used_block6(arcs: &[ArcRow], i: usize) -> bool
-    requires { ⌜ i + 8 ≤ length (now arcs) ⌝ }
-    ensures { λ r. ⌜ (r ≡ true → UsedRows (now (arcs .entry)) i (i + 8)) ⌝ }
+fn used_block3(rows: &[EdgeRow], i: usize) -> bool
+    requires { ⌜ i + 8 ≤ length (now rows) ⌝ }
+    ensures { λ r. ⌜ (r ≡ true → UsedRows (now (rows .entry)) i (i + 8)) ⌝ }
 {
     let mut used = true;
     let mut k: usize = 0;
     while k < 8 {
-        used = used & (arcs[i + k][0] != 0);
+        used = used & (rows[i + k][0] != 0);
+        k += 1;
+    }
+    used
+}
+
+fn used_block6(rows: &[ArcRow], i: usize) -> bool
+    requires { ⌜ i + 8 ≤ length (now rows) ⌝ }
+    ensures { λ r. ⌜ (r ≡ true → UsedRows (now (rows .entry)) i (i + 8)) ⌝ }
+{
+    let mut used = true;
+    let mut k: usize = 0;
+    while k < 8 {
+        used = used & (rows[i + k][0] != 0);
         k += 1;
     }
     used
 }
 
 // Goes on from a row by whole blocks of used rows: the row where it stops.
-pub fn skip3(edges: &[EdgeRow], from: usize) -> usize
-    requires { ⌜ from ≤ length (now edges) ⌝ }
-    ensures { λ r. ⌜ UsedUpTo (now (edges .entry)) from r ⌝ }
+pub fn skip2(rows: &[VertexRow], from: usize) -> usize
+    requires { ⌜ from ≤ length (now rows) ⌝ }
+    ensures { λ r. ⌜ UsedUpTo (now (rows .entry)) from r ⌝ }
 {
     let mut i = from;
-    while edges.len() - i >= 8 {
-        if !used_block3(edges, i) {
+    while rows.len() - i >= 8 {
+        if !used_block2(rows, i) {
             return i;
         }
         i += 8;
@@ -50,13 +64,27 @@ pub fn skip3(edges: &[EdgeRow], from: usize) -> usize
     i
 }
 
-pub fn skip6(arcs: &[ArcRow], from: usize) -> usize
-    requires { ⌜ from ≤ length (now arcs) ⌝ }
-    ensures { λ r. ⌜ UsedUpTo (now (arcs .entry)) from r ⌝ }
+pub fn skip3(rows: &[EdgeRow], from: usize) -> usize
+    requires { ⌜ from ≤ length (now rows) ⌝ }
+    ensures { λ r. ⌜ UsedUpTo (now (rows .entry)) from r ⌝ }
 {
     let mut i = from;
-    while arcs.len() - i >= 8 {
-        if !used_block6(arcs, i) {
+    while rows.len() - i >= 8 {
+        if !used_block3(rows, i) {
+            return i;
+        }
+        i += 8;
+    }
+    i
+}
+
+pub fn skip6(rows: &[ArcRow], from: usize) -> usize
+    requires { ⌜ from ≤ length (now rows) ⌝ }
+    ensures { λ r. ⌜ UsedUpTo (now (rows .entry)) from r ⌝ }
+{
+    let mut i = from;
+    while rows.len() - i >= 8 {
+        if !used_block6(rows, i) {
             return i;
         }
         i += 8;

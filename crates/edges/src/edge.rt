@@ -29,7 +29,7 @@ fn new_arc(
     requires { ⌜ UsedBefore (now arcs) from ⌝ }
     ensures { λ r. ⌜ (r ≡ freeRow (now (arcs .entry))) × ((p : List (List Float)) (d f : Table) (k : List ℕ) → mesh (now (vertices .exit)) p (now (arcs .exit)) d f k ≡ newArc (mesh (now (vertices .entry)) p (now (arcs .entry)) d f k) a b e) ⌝ }
 {
-    let x = free::free_arc(arcs, from);
+    let x = free::free6(arcs, from);
     rows::put_row6(arcs, x, [a, b, 0, 0, 0, e]);
     links::set_leading(vertices, a, x);
     x
@@ -47,16 +47,20 @@ pub fn new_edge_from(
     b: u32,
 ) -> Lowest
     requires { ⌜ UsedBefore (now arcs) (from .arc) × UsedBefore (now edges) (from .edge) ⌝ }
-    ensures { λ r. ⌜ (r ≡ record { arc = freeRow (now (arcs .entry)); edge = freeRow (now (edges .entry)) }) × ((p : List (List Float)) (f : Table) → mesh (now (vertices .exit)) p (now (arcs .exit)) (now (edges .exit)) f (now (counters .exit)) ≡ newEdge (mesh (now (vertices .entry)) p (now (arcs .entry)) (now (edges .entry)) f (now (counters .entry))) a b) ⌝ }
+    ensures { λ r. ⌜ (r ≡ record { arc = freeRow (now (arcs .entry)); edge = freeRow (now (edges .entry)); face = from .face }) × ((p : List (List Float)) (f : Table) → mesh (now (vertices .exit)) p (now (arcs .exit)) (now (edges .exit)) f (now (counters .exit)) ≡ newEdge (mesh (now (vertices .entry)) p (now (arcs .entry)) (now (edges .entry)) f (now (counters .entry))) a b) ⌝ }
 {
-    let row = free::free_edge(edges, from.edge);
+    let row = free::free3(edges, from.edge);
     let x = new_arc(vertices, arcs, from.arc, a, b, row);
     let y = new_arc(vertices, arcs, x, b, a, row);
     let key = counters[1];
     let first = tables::vertices::one_up(key);
     rows::put_row3(edges, row, [first, x, y]);
     counters[1] = first;
-    Lowest { arc: x, edge: row }
+    Lowest {
+        arc: x,
+        edge: row,
+        face: from.face,
+    }
 }
 
 pub fn new_edge(
@@ -69,7 +73,11 @@ pub fn new_edge(
 )
     ensures { λ _. ⌜ ((p : List (List Float)) (f : Table) → mesh (now (vertices .exit)) p (now (arcs .exit)) (now (edges .exit)) f (now (counters .exit)) ≡ newEdge (mesh (now (vertices .entry)) p (now (arcs .entry)) (now (edges .entry)) f (now (counters .entry))) a b) ⌝ }
 {
-    let from = Lowest { arc: 0, edge: 0 };
+    let from = Lowest {
+        arc: 0,
+        edge: 0,
+        face: 0,
+    };
     new_edge_from(vertices, arcs, edges, counters, from, a, b);
 }
 

@@ -1,6 +1,7 @@
 // A new face record, and a face taken out. Document 01's rule 5, "the face with the first perimeter arc", and rule 2: "Removing a face
 // clears only the face of its ring's arcs and drops the record; arcs, edges and links stay."
 
+use crate::free;
 use rules::ArcRow;
 use rules::FaceRow;
 use rules::Links;
@@ -15,12 +16,14 @@ ghost use Rattle.rules.specs.Table.{Table, put, freeRow, upTo};
 ghost use Rattle.rules.specs.Mesh.{mesh, listOf};
 ghost use Rattle.rules.specs.Insert.{newFace};
 ghost use Rattle.rules.specs.Edit.{remove};
+ghost use Rattle.edges.specs.Free.{UsedBefore};
 
-// The record with its arc and mark in the lowest unused row, with the next key; the row's link.
-pub fn new_face(faces: &mut [FaceRow], counters: &mut [u32; 3], x: u32, mark: u32) -> u32
+// The record with its arc and mark in the lowest unused row, which is looked for from a row on, with the next key; the row's link.
+pub fn new_face(faces: &mut [FaceRow], counters: &mut [u32; 3], from: u32, x: u32, mark: u32) -> u32
+    requires { ⌜ UsedBefore (now faces) from ⌝ }
     ensures { λ r. ⌜ (r ≡ freeRow (now (faces .entry))) × ((v : Table) (p : List (List Float)) (a e : Table) → mesh v p a e (now (faces .exit)) (now (counters .exit)) ≡ newFace (mesh v p a e (now (faces .entry)) (now (counters .entry))) x mark) ⌝ }
 {
-    let row = rows::free3(faces);
+    let row = free::free3(faces, from);
     let key = counters[2];
     let first = tables::vertices::one_up(key);
     rows::put_row3(faces, row, [first, x, mark]);

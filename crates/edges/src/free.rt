@@ -5,6 +5,7 @@
 use crate::blocks;
 use rules::ArcRow;
 use rules::EdgeRow;
+use rules::VertexRow;
 ghost use mathlib.Core.Path.{_≡_};
 ghost use Prim.Native.Nat.{_-_};
 ghost use Rattle.rules.specs.Table.{freeRow};
@@ -17,6 +18,7 @@ const ROW_LIMIT: usize = 16384;
 pub struct Lowest {
     pub arc: u32,
     pub edge: u32,
+    pub face: u32,
 }
 
 // The row that a link names; the first where it names none.
@@ -29,17 +31,17 @@ fn row_of(l: u32) -> usize
     l as usize - 1
 }
 
-// The lowest unused row of the arcs.
-pub fn free_arc(arcs: &[ArcRow], from: u32) -> u32
-    requires { ⌜ UsedBefore (now arcs) from ⌝ }
-    ensures { λ r. ⌜ r ≡ freeRow (now (arcs .entry)) ⌝ }
+// The lowest unused row in a table of each width.
+pub fn free2(rows: &[VertexRow], from: u32) -> u32
+    requires { ⌜ UsedBefore (now rows) from ⌝ }
+    ensures { λ r. ⌜ r ≡ freeRow (now (rows .entry)) ⌝ }
 {
-    if arcs.len() > ROW_LIMIT {
+    if rows.len() > ROW_LIMIT {
         return 0;
     }
-    let mut i = blocks::skip6(arcs, row_of(from));
-    while i < arcs.len() {
-        if arcs[i][0] == 0 {
+    let mut i = blocks::skip2(rows, row_of(from));
+    while i < rows.len() {
+        if rows[i][0] == 0 {
             return i as u32 + 1;
         }
         i += 1;
@@ -47,17 +49,33 @@ pub fn free_arc(arcs: &[ArcRow], from: u32) -> u32
     0
 }
 
-// That of the edges.
-pub fn free_edge(edges: &[EdgeRow], from: u32) -> u32
-    requires { ⌜ UsedBefore (now edges) from ⌝ }
-    ensures { λ r. ⌜ r ≡ freeRow (now (edges .entry)) ⌝ }
+pub fn free3(rows: &[EdgeRow], from: u32) -> u32
+    requires { ⌜ UsedBefore (now rows) from ⌝ }
+    ensures { λ r. ⌜ r ≡ freeRow (now (rows .entry)) ⌝ }
 {
-    if edges.len() > ROW_LIMIT {
+    if rows.len() > ROW_LIMIT {
         return 0;
     }
-    let mut i = blocks::skip3(edges, row_of(from));
-    while i < edges.len() {
-        if edges[i][0] == 0 {
+    let mut i = blocks::skip3(rows, row_of(from));
+    while i < rows.len() {
+        if rows[i][0] == 0 {
+            return i as u32 + 1;
+        }
+        i += 1;
+    }
+    0
+}
+
+pub fn free6(rows: &[ArcRow], from: u32) -> u32
+    requires { ⌜ UsedBefore (now rows) from ⌝ }
+    ensures { λ r. ⌜ r ≡ freeRow (now (rows .entry)) ⌝ }
+{
+    if rows.len() > ROW_LIMIT {
+        return 0;
+    }
+    let mut i = blocks::skip6(rows, row_of(from));
+    while i < rows.len() {
+        if rows[i][0] == 0 {
             return i as u32 + 1;
         }
         i += 1;

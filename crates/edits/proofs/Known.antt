@@ -18,15 +18,16 @@ use Rattle.edits.specs.declared.near.Around.{Around}
 use Rattle.edits.specs.Each.{eachIn, joinedBy}
 use Rattle.edits.specs.Known.{Known}
 
-pub known-stays : (m n : Mesh) (seen : List Bool) (near : List ℕ) (k : Around) → Filled m n → Known (m .arcs) (m .edges) seen near k → Known (n .arcs) (n .edges) seen near k
+pub known-stays : (m n : Mesh) (seen : List Bool) (near : List ℕ) (k : Around) → Filled m n → Known (m .arcs) (m .edges) (m .faces) seen near k → Known (n .arcs) (n .edges) (n .faces) seen near k
 known-stays m n seen near k f h = record {
   listed = near-stays (m .arcs) (n .arcs) seen (take (k .by .len) near) (k .by .spare) (f .arcs) (h .listed);
   arcs-used = used-stays (m .arcs) (n .arcs) (k .from .arc) (f .arcs) (h .arcs-used);
   edges-used = used-stays (m .edges) (n .edges) (k .from .edge) (f .edges) (h .edges-used);
+  faces-used = used-stays (m .faces) (n .faces) (k .from .face) (f .faces) (h .faces-used);
 }
 
 -- by a step that leaves a mesh so
-pub known-then : (m n o : Mesh) (seen : List Bool) (near : List ℕ) (k : Around) → Filled m o → n ≡ o → Known (m .arcs) (m .edges) seen near k → Known (n .arcs) (n .edges) seen near k
+pub known-then : (m n o : Mesh) (seen : List Bool) (near : List ℕ) (k : Around) → Filled m o → n ≡ o → Known (m .arcs) (m .edges) (m .faces) seen near k → Known (n .arcs) (n .edges) (n .faces) seen near k
 known-then m n o seen near k f e h = known-stays m n seen near k (subst (Filled m) (sym e) f) h
 
 -- ---- the edge of an arc extrude
@@ -69,7 +70,7 @@ module _ (f : ℕ → Mesh → Step) (fills : (i : ℕ) (m : Mesh) → Filled m 
       go false = refl
 
   -- in the middle of it, o being what is done so far
-  pub known-each : (n : ℕ) (o : Mesh) (seen : List Bool) (near : List ℕ) (k : Around) → eachIn f n m ≡ step o Done → Known (m .arcs) (m .edges) seen near k → Known (o .arcs) (o .edges) seen near k
+  pub known-each : (n : ℕ) (o : Mesh) (seen : List Bool) (near : List ℕ) (k : Around) → eachIn f n m ≡ step o Done → Known (m .arcs) (m .edges) (m .faces) seen near k → Known (o .arcs) (o .edges) (o .faces) seen near k
   unfolding eachIn
   known-each n o seen near k e h =
       let s : Step = upTo (λ i t. andThen t (f i)) n (step m Done) in

@@ -8,7 +8,8 @@ use Rattle.edges.specs.Free.{UsedBefore}
 use Rattle.pairs.specs.Near.{Near}
 use Rattle.edits.specs.declared.near.Around.{Around}
 
-pub record Known (arcs edges : Table) (seen : List Bool) (near : List ℕ) (k : Around) : Type 0 where
+pub record Known (arcs edges faces : Table) (seen : List Bool) (near : List ℕ) (k : Around) : Type 0 where
   pub listed : Near arcs seen (take (k .by .len) near) (k .by .spare)
   pub arcs-used : UsedBefore arcs (k .from .arc)
   pub edges-used : UsedBefore edges (k .from .edge)
+  pub faces-used : UsedBefore faces (k .from .face)

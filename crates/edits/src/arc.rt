@@ -49,7 +49,11 @@ pub fn arc_bridge_work(
 {
     let told = checks::bridge::corners_between(arcs, four);
     let key = counters[2];
-    let from = Lowest { arc: 0, edge: 0 };
+    let from = Lowest {
+        arc: 0,
+        edge: 0,
+        face: 0,
+    };
     insert::face::insert_by(
         vertices,
         arcs,
@@ -82,7 +86,7 @@ pub fn arc_bridge(
     y: u32,
 ) -> Answer
     requires { ⌜ (length (now past) ≡ length (now arcs)) × (length (now pastedges) ≡ length (now edges)) ⌝ }
-    requires { ⌜ Known (now arcs) (now edges) (now seen) (now near) around ⌝ }
+    requires { ⌜ Known (now arcs) (now edges) (now faces) (now seen) (now near) around ⌝ }
     ensures { λ r. ⌜ ((p : List (List Float)) → step (mesh (now (vertices .exit)) p (now (arcs .exit)) (now (edges .exit)) (now (faces .exit)) (now (counters .exit))) r ≡ arcBridge (mesh (now (vertices .entry)) p (now (arcs .entry)) (now (edges .entry)) (now (faces .entry)) (now (counters .entry))) x y) ⌝ }
 {
     let four = checks::bridge::corners_of(arcs, x, y);
@@ -134,7 +138,7 @@ fn joined(
     let mut links = [0u32; NEAR];
     let one = near::two(a, b);
     let other = near::two(c, d);
-    let around = near::near_edit(&mut seen, &mut links, arcs, edges, one, other, 4);
+    let around = near::near_edit(&mut seen, &mut links, arcs, edges, faces, one, other, 4);
     let y = near::edge_near(vertices, arcs, edges, counters, &seen, &links, around, c, d);
     arc_bridge(
         vertices,
@@ -171,10 +175,10 @@ pub fn arc_extrude_work(
     let a = rows::cell6(arcs, x, 0);
     let first = counters[0];
     let place = points::moved(points::position_at(positions, b), by);
-    let c = edges::vertex::new_vertex(vertices, positions, counters, place);
+    let c = edges::vertex::new_vertex(vertices, positions, counters, 0, place);
     let second = counters[0];
     let other = points::moved(points::position_at(positions, a), by);
-    let d = edges::vertex::new_vertex(vertices, positions, counters, other);
+    let d = edges::vertex::new_vertex(vertices, positions, counters, 0, other);
     let told = joined(
         vertices,
         arcs,

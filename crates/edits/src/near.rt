@@ -1,5 +1,5 @@
 // What an edit knows of the tables near it, found in one pass for all its faces: the arcs that leave its vertices, and the lowest unused rows, which
-// its new arcs and edges take. It carries the lookups of document 01's rule 5, and rule 4's edge that is there or is made.
+// its new arcs, edges and faces take. It carries the lookups of document 01's rule 5, and rule 4's edge that is there or is made.
 
 use edges::edge;
 use edges::free;
@@ -9,6 +9,7 @@ use pairs::near::NEAR;
 use pairs::near::Nearby;
 use rules::ArcRow;
 use rules::EdgeRow;
+use rules::FaceRow;
 use rules::Links;
 use rules::RING;
 use rules::VertexRow;
@@ -16,10 +17,13 @@ use tables::rows;
 ghost use mathlib.Core.Path.{_≡_};
 ghost use mathlib.Core.List.{List};
 ghost use Prim.Native.Nat.{_≤_};
+ghost use lib.ListN.{take};
 ghost use lib.Ieee.{Float};
 ghost use Rattle.rules.specs.Table.{Table};
 ghost use Rattle.rules.specs.Mesh.{mesh, arcBetween};
 ghost use Rattle.rules.specs.Link.{getOrInsertEdge};
+ghost use Rattle.edges.specs.Free.{UsedBefore};
+ghost use Rattle.pairs.specs.Near.{Near};
 ghost use Rattle.edits.specs.Known.{Known};
 
 // The list of arcs, and where unused rows may be looked for.
@@ -55,20 +59,23 @@ pub fn near_edit(
     near: &mut [u32; NEAR],
     arcs: &[ArcRow],
     edges: &[EdgeRow],
+    faces: &[FaceRow],
     one: Links,
     other: Links,
     made: usize,
 ) -> Around
     requires { ⌜ made ≤ 128 ⌝ }
-    ensures { λ r. ⌜ Known (now (arcs .entry)) (now (edges .entry)) (now (seen .exit)) (now (near .exit)) r ⌝ }
+    ensures { λ r. ⌜ Known (now (arcs .entry)) (now (edges .entry)) (now (faces .entry)) (now (seen .exit)) (now (near .exit)) r ⌝ }
 {
     pairs::near::mark(seen, one);
     pairs::near::mark(seen, other);
     let by = pairs::near::list_near(near, arcs, seen, 2 * made + 1);
-    let edge = free::free_edge(edges, 0);
+    let edge = free::free3(edges, 0);
+    let face = free::free3(faces, 0);
     let from = Lowest {
         arc: by.first,
         edge,
+        face,
     };
     Around { by, from }
 }
@@ -85,7 +92,8 @@ pub fn edge_near(
     a: u32,
     b: u32,
 ) -> u32
-    requires { ⌜ Known (now arcs) (now edges) (now seen) (now near) around ⌝ }
+    requires { ⌜ Near (now arcs) (now seen) (take (around .by .len) (now near)) (around .by .spare) ⌝ }
+    requires { ⌜ UsedBefore (now arcs) (around .from .arc) × UsedBefore (now edges) (around .from .edge) ⌝ }
     ensures { λ r. ⌜ ((p : List (List Float)) (f : Table) → mesh (now (vertices .exit)) p (now (arcs .exit)) (now (edges .exit)) f (now (counters .exit)) ≡ getOrInsertEdge (mesh (now (vertices .entry)) p (now (arcs .entry)) (now (edges .entry)) f (now (counters .entry))) a b) × (r ≡ arcBetween (now (arcs .exit)) a b) ⌝ }
 {
     let by = around.by;

@@ -45,11 +45,13 @@ fn copies_in(
     let n = lists::size(vs);
     lists::known_few(vs);
     let mut at = [0u32; RING];
+    let mut from: u32 = 0;
     let mut i: usize = 0;
     while i < n {
         let v = lists::item(vs, i);
         let place = points::moved(points::position_at(positions, v), by);
-        at[i] = edges::vertex::new_vertex(vertices, positions, counters, place);
+        from = edges::vertex::new_vertex(vertices, positions, counters, from, place);
+        at[i] = from;
         i += 1;
     }
     Links { at, len: n }
@@ -86,7 +88,7 @@ fn walls_in(
     ds: Links,
 ) -> Answer
     requires { ⌜ (length (now past) ≡ length (now arcs)) × (length (now pastedges) ≡ length (now edges)) ⌝ }
-    requires { ⌜ Known (now arcs) (now edges) (now seen) (now near) around ⌝ }
+    requires { ⌜ Known (now arcs) (now edges) (now faces) (now seen) (now near) around ⌝ }
     ensures { λ r. ⌜ ((p : List (List Float)) → step (mesh (now (vertices .exit)) p (now (arcs .exit)) (now (edges .exit)) (now (faces .exit)) (now (counters .exit))) r ≡ eachIn (λ i a. insertFace a (wall (listOf vs) (listOf ds) i) 0) (length (listOf vs)) (mesh (now (vertices .entry)) p (now (arcs .entry)) (now (edges .entry)) (now (faces .entry)) (now (counters .entry)))) ⌝ }
 {
     let n = lists::size(vs);
@@ -133,7 +135,7 @@ fn top_and_walls(
     let n = lists::size(vs);
     let mut seen = [false; MARKS];
     let mut links = [0u32; NEAR];
-    let around = near::near_edit(&mut seen, &mut links, arcs, edges, vs, ds, 2 * n);
+    let around = near::near_edit(&mut seen, &mut links, arcs, edges, faces, vs, ds, 2 * n);
     let top = face::insert_face(
         vertices,
         arcs,

@@ -102,8 +102,8 @@ pub may-still : (m o : Mesh) (a b : ℕ) (from : Lowest) → o ≡ getOrInsertEd
 may-still m o a b from e h =
     subst (λ (n : Mesh). MayStart n from) (sym e) (either m a b (λ n. MayStart n from) h (used-arcs m a b (from .arc) (h .0), used-edges m a b (from .edge) (h .1)))
 
-pub may-next : (m o : Mesh) (a b : ℕ) (r : Lowest) → o ≡ newEdge m a b → r ≡ record { arc = freeRow (m .arcs); edge = freeRow (m .edges) } → MayStart o r
-may-next m o a b r e er =
+pub may-next : (m o : Mesh) (a b f : ℕ) (r : Lowest) → o ≡ newEdge m a b → r ≡ record { arc = freeRow (m .arcs); edge = freeRow (m .edges); face = f } → MayStart o r
+may-next m o a b f r e er =
     subst (λ (n : Mesh). MayStart n r) (sym e) (subst (MayStart (newEdge m a b)) (sym er) (used-arcs m a b (freeRow (m .arcs)) (used-free (m .arcs)), used-edges m a b (freeRow (m .edges)) (used-free (m .edges))))
 
 -- ---- the arcs found before the edges

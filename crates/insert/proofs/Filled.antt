@@ -1,5 +1,5 @@
--- Arcs and edges are made in the lowest unused rows, and nothing else in an insert writes a row's first cell: so each step of an edit leaves the
--- arcs and the edges filled up. What is known of used rows stays known.
+-- Arcs, edges and faces are made in the lowest unused rows, and nothing else in an insert writes a row's first cell: so each step of an edit leaves
+-- these tables filled up. What is known of used rows stays known.
 use Prim.Native.Nat.{ℕ, zero, suc, _+_, _-_, _≤_, _<_}
 use native.Mathlib.Omega.{arith}
 use native.Mathlib.Decide.{ℕ-discrete, decLt}
@@ -11,13 +11,12 @@ use lib.Seq.{getD-set-other}
 use lib.Dec.{eqb}
 use borrow.Author.Tests.{ne-eqb, eqb-true, eqb-false}
 use Rattle.rules.specs.declared.Answer.{Answer}
-use Rattle.rules.specs.declared.Position.{Position}
 use Rattle.rules.specs.Table.{Table, cell, put, putRow, freeRow, upTo, after, orElse}
 use Rattle.rules.specs.Mesh.{Mesh, previous, next, face, opposite, findArc}
-use Rattle.rules.specs.Link.{putVertex, newVertex, connect, setFace, ring, newArc, newEdge, getOrInsertEdge}
+use Rattle.rules.specs.Link.{connect, setFace, newArc, newEdge, getOrInsertEdge}
 use Rattle.rules.specs.Step.{Step, step, accepted, checked}
 use Rattle.rules.specs.Insert.{arcAt, firstFaceless, edgesIn, newFace, interior, exteriorAt, exterior, putFace, listsOf, insertChecks, insertWork, insertFace}
-use Rattle.rules.specs.Edit.{remove, corners, arcBridgeChecks, arcBridgeWork, arcBridge}
+use Rattle.rules.specs.Edit.{corners, arcBridgeChecks, arcBridgeWork, arcBridge}
 use Rattle.tables.proofs.Cells.{cell-none, cell-here, row-none, row-here}
 use Rattle.edges.specs.Free.{UsedBefore}
 use Rattle.edges.proofs.Searches.{used-free, free-unused}
@@ -111,17 +110,18 @@ used-stays t n l f h k q = ne-eqb (getD (getD n k []) 0 0) 0 some
     some : getD (getD n k []) 0 0 ≡ 0 → ⊥
     some z = was (sym (f .stays (k + 1) was) ∙ here n ∙ z)
 
--- ---- arcs and edges of a mesh
+-- ---- arcs, edges and faces of a mesh
 
 pub record Filled (m n : Mesh) : Type 0 where
   pub arcs : FilledUp (m .arcs) (n .arcs)
   pub edges : FilledUp (m .edges) (n .edges)
+  pub faces : FilledUp (m .faces) (n .faces)
 
 pub as-it-is : (m : Mesh) → Filled m m
-as-it-is m = record { arcs = filled-itself (m .arcs); edges = filled-itself (m .edges) }
+as-it-is m = record { arcs = filled-itself (m .arcs); edges = filled-itself (m .edges); faces = filled-itself (m .faces) }
 
 pub and-then : (m n o : Mesh) → Filled m n → Filled n o → Filled m o
-and-then m n o f g = record { arcs = filled-trans (m .arcs) (n .arcs) (o .arcs) (f .arcs) (g .arcs); edges = filled-trans (m .edges) (n .edges) (o .edges) (f .edges) (g .edges) }
+and-then m n o f g = record { arcs = filled-trans (m .arcs) (n .arcs) (o .arcs) (f .arcs) (g .arcs); edges = filled-trans (m .edges) (n .edges) (o .edges) (f .edges) (g .edges); faces = filled-trans (m .faces) (n .faces) (o .faces) (f .faces) (g .faces) }
 
 in-turns : (f : ℕ → Mesh → Mesh) → ((i : ℕ) (m : Mesh) → Filled m (f i m)) → (n : ℕ) (m : Mesh) → Filled m (upTo f n m)
 unfolding upTo
@@ -132,39 +132,30 @@ either-way : (b : Bool) (m n o : Mesh) → Filled m n → Filled m o → Filled 
 either-way true m n o f g = f
 either-way false m n o f g = g
 
--- ---- the steps of rules 1, 2 and 4
-
-pub filled-vertex : (m : Mesh) (p : Position) → Filled m (newVertex m p)
-unfolding newVertex putVertex
-filled-vertex m p = record { arcs = filled-itself (m .arcs); edges = filled-itself (m .edges) }
+-- ---- the steps of rules 2 and 4
 
 filled-connect : (m : Mesh) (x y : ℕ) → Filled m (connect m x y)
 unfolding connect
 filled-connect m x y = record {
   arcs = filled-trans (m .arcs) (put (m .arcs) x 2 y) (put (put (m .arcs) x 2 y) y 3 x) (filled-put (m .arcs) x 2 y (omega arith)) (filled-put (put (m .arcs) x 2 y) y 3 x (omega arith));
   edges = filled-itself (m .edges);
+  faces = filled-itself (m .faces);
 }
 
 filled-face : (m : Mesh) (x f : ℕ) → Filled m (setFace m x f)
 unfolding setFace
-filled-face m x f = record { arcs = filled-put (m .arcs) x 4 f (omega arith); edges = filled-itself (m .edges) }
-
-pub filled-remove : (m : Mesh) (f : ℕ) → Filled m (remove m f)
-unfolding remove
-filled-remove m f =
-    let g = in-turns (λ i a. setFace a (getD (ring m f) i 0) 0) (λ i a. filled-face a (getD (ring m f) i 0) 0) (length (ring m f)) m in
-    record { arcs = g .arcs; edges = g .edges }
+filled-face m x f = record { arcs = filled-put (m .arcs) x 4 f (omega arith); edges = filled-itself (m .edges); faces = filled-itself (m .faces) }
 
 filled-arc : (m : Mesh) (a b e : ℕ) → Filled m (newArc m a b e)
 unfolding newArc
-filled-arc m a b e = record { arcs = filled-row (m .arcs) (a ∷ b ∷ 0 ∷ 0 ∷ 0 ∷ e ∷ []); edges = filled-itself (m .edges) }
+filled-arc m a b e = record { arcs = filled-row (m .arcs) (a ∷ b ∷ 0 ∷ 0 ∷ 0 ∷ e ∷ []); edges = filled-itself (m .edges); faces = filled-itself (m .faces) }
 
 pub filled-edge : (m : Mesh) (a b : ℕ) → Filled m (newEdge m a b)
 unfolding newEdge newArc
 filled-edge m a b =
     let e = freeRow (m .edges) in
     let g = and-then m (newArc m a b e) (newArc (newArc m a b e) b a e) (filled-arc m a b e) (filled-arc (newArc m a b e) b a e) in
-    record { arcs = g .arcs; edges = filled-row (m .edges) _ }
+    record { arcs = g .arcs; edges = filled-row (m .edges) _; faces = g .faces }
 
 pub filled-get : (m : Mesh) (a b : ℕ) → Filled m (getOrInsertEdge m a b)
 unfolding getOrInsertEdge
@@ -178,7 +169,7 @@ filled-edges per m = in-turns _ (λ i a. filled-get a (getD per i 0) (getD per (
 
 filled-record : (m : Mesh) (x mark : ℕ) → Filled m (newFace m x mark)
 unfolding newFace
-filled-record m x mark = record { arcs = filled-itself (m .arcs); edges = filled-itself (m .edges) }
+filled-record m x mark = record { arcs = filled-itself (m .arcs); edges = filled-itself (m .edges); faces = filled-row (m .faces) _ }
 
 filled-interior : (per : List ℕ) (f : ℕ) (m : Mesh) → Filled m (interior per f m)
 unfolding interior

@@ -44,10 +44,14 @@ fn put_face_by(
     requires { ⌜ listOf found ≡ arcsOf (now arcs) (listOf per) ⌝ }
     ensures { λ _. ⌜ ((p : List (List Float)) → mesh (now (vertices .exit)) p (now (arcs .exit)) (now (edges .exit)) (now (faces .exit)) (now (counters .exit)) ≡ putFace (mesh (now (vertices .entry)) p (now (arcs .entry)) (now (edges .entry)) (now (faces .entry)) (now (counters .entry))) (listOf per) (listsFrom (now (past .entry)) (now (pastedges .entry)) bound (listOf leads)) mark) ⌝ }
 {
-    let start = Lowest { arc: 0, edge: 0 };
+    let start = Lowest {
+        arc: 0,
+        edge: 0,
+        face: 0,
+    };
     let told = perimeter::edges_in(vertices, arcs, edges, counters, per, found, start);
     let xs = perimeter::arcs_told(arcs, per, told);
-    let face = edges::face::new_face(faces, counters, lists::item(xs, 0), mark);
+    let face = edges::face::new_face(faces, counters, 0, lists::item(xs, 0), mark);
     perimeter::interior(arcs, xs, face);
     perimeter::exterior(arcs, edges, past, pastedges, bound, leads, xs);
 }
@@ -100,12 +104,12 @@ pub fn put_face_taken(
     mark: u32,
 )
     requires { ⌜ (length (listOf per) ≤ length (now rows)) × (listOf found ≡ arcsOf (now arcs) (listOf per)) ⌝ }
-    requires { ⌜ UsedBefore (now arcs) (from .arc) × UsedBefore (now edges) (from .edge) ⌝ }
+    requires { ⌜ UsedBefore (now arcs) (from .arc) × (UsedBefore (now edges) (from .edge) × UsedBefore (now faces) (from .face)) ⌝ }
     ensures { λ _. ⌜ ((p : List (List Float)) → mesh (now (vertices .exit)) p (now (arcs .exit)) (now (edges .exit)) (now (faces .exit)) (now (counters .exit)) ≡ putFace (mesh (now (vertices .entry)) p (now (arcs .entry)) (now (edges .entry)) (now (faces .entry)) (now (counters .entry))) (listOf per) (now (rows .entry)) mark) ⌝ }
 {
     let told = perimeter::edges_in(vertices, arcs, edges, counters, per, found, from);
     let ring = perimeter::arcs_told(arcs, per, told);
-    let face = edges::face::new_face(faces, counters, lists::item(ring, 0), mark);
+    let face = edges::face::new_face(faces, counters, from.face, lists::item(ring, 0), mark);
     perimeter::interior(arcs, ring, face);
     taken::exterior(arcs, edges, rows, ring);
 }
@@ -165,7 +169,7 @@ pub fn insert_by(
 )
     requires { ⌜ (length (now past) ≡ length (now arcs)) × (length (now pastedges) ≡ length (now edges)) ⌝ }
     requires { ⌜ listOf found ≡ arcsOf (now arcs) (listOf per) ⌝ }
-    requires { ⌜ UsedBefore (now arcs) (from .arc) × UsedBefore (now edges) (from .edge) ⌝ }
+    requires { ⌜ UsedBefore (now arcs) (from .arc) × (UsedBefore (now edges) (from .edge) × UsedBefore (now faces) (from .face)) ⌝ }
     ensures { λ _. ⌜ ((p : List (List Float)) → mesh (now (vertices .exit)) p (now (arcs .exit)) (now (edges .exit)) (now (faces .exit)) (now (counters .exit)) ≡ putFace (mesh (now (vertices .entry)) p (now (arcs .entry)) (now (edges .entry)) (now (faces .entry)) (now (counters .entry))) (listOf per) (listsOf (mesh (now (vertices .entry)) p (now (arcs .entry)) (now (edges .entry)) (now (faces .entry)) (now (counters .entry))) (listOf per)) mark) ⌝ }
 {
     lists::known_few(per);
@@ -224,6 +228,7 @@ pub fn insert_work(
     let from = Lowest {
         arc: by.first,
         edge: 0,
+        face: 0,
     };
     insert_by(
         vertices,

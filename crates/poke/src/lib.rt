@@ -60,7 +60,7 @@ fn parts_in(
     mark: u32,
 ) -> Answer
     requires { ⌜ (length (now past) ≡ length (now arcs)) × (length (now pastedges) ≡ length (now edges)) ⌝ }
-    requires { ⌜ Known (now arcs) (now edges) (now seen) (now near) around ⌝ }
+    requires { ⌜ Known (now arcs) (now edges) (now faces) (now seen) (now near) around ⌝ }
     ensures { λ r. ⌜ ((p : List (List Float)) → step (mesh (now (vertices .exit)) p (now (arcs .exit)) (now (edges .exit)) (now (faces .exit)) (now (counters .exit))) r ≡ eachIn (λ i a. insertFace a (getD (listOf vs) i 0 ∷ getD (listOf vs) (after (length (listOf vs)) i) 0 ∷ c ∷ []) mark) (length (listOf vs)) (mesh (now (vertices .entry)) p (now (arcs .entry)) (now (edges .entry)) (now (faces .entry)) (now (counters .entry)))) ⌝ }
 {
     let n = lists::size(vs);
@@ -109,7 +109,7 @@ fn parts_near(
     let new = near::two(c, c);
     let mut seen = [false; MARKS];
     let mut links = [0u32; NEAR];
-    let around = near::near_edit(&mut seen, &mut links, arcs, edges, vs, new, made);
+    let around = near::near_edit(&mut seen, &mut links, arcs, edges, faces, vs, new, made);
     parts_in(
         vertices,
         arcs,
@@ -146,7 +146,7 @@ pub fn poke_work(
     let mark = rows::cell3(faces, f, 2);
     let key = counters[0];
     edges::face::remove_face(arcs, faces, f);
-    let c = edges::vertex::new_vertex(vertices, positions, counters, position);
+    let c = edges::vertex::new_vertex(vertices, positions, counters, 0, position);
     let told = parts_near(
         vertices,
         arcs,

@@ -117,7 +117,7 @@ fn halves_taken(
     right: Links,
 )
     requires { ⌜ (length (listOf left) ≤ length (now ours)) × (length (listOf right) ≤ length (now theirs)) ⌝ }
-    requires { ⌜ Known (now arcs) (now edges) (now seen) (now near) around ⌝ }
+    requires { ⌜ Known (now arcs) (now edges) (now faces) (now seen) (now near) around ⌝ }
     ensures { λ _. ⌜ ((p : List (List Float)) → mesh (now (vertices .exit)) p (now (arcs .exit)) (now (edges .exit)) (now (faces .exit)) (now (counters .exit)) ≡ putFace (putFace (mesh (now (vertices .entry)) p (now (arcs .entry)) (now (edges .entry)) (now (faces .entry)) (now (counters .entry))) (listOf left) (now (ours .entry)) 0) (listOf right) (now (theirs .entry)) 0) ⌝ }
 {
     lists::known_few(left);
@@ -168,7 +168,7 @@ fn halves_in(
     right: Links,
 )
     requires { ⌜ (length (now past) ≡ length (now arcs)) × (length (now pastedges) ≡ length (now edges)) ⌝ }
-    requires { ⌜ Known (now arcs) (now edges) (now seen) (now near) around ⌝ }
+    requires { ⌜ Known (now arcs) (now edges) (now faces) (now seen) (now near) around ⌝ }
     ensures { λ _. ⌜ ((p : List (List Float)) → mesh (now (vertices .exit)) p (now (arcs .exit)) (now (edges .exit)) (now (faces .exit)) (now (counters .exit)) ≡ putFace (putFace (mesh (now (vertices .entry)) p (now (arcs .entry)) (now (edges .entry)) (now (faces .entry)) (now (counters .entry))) (listOf left) (listsOf (mesh (now (vertices .entry)) p (now (arcs .entry)) (now (edges .entry)) (now (faces .entry)) (now (counters .entry))) (listOf left)) 0) (listOf right) (listsOf (mesh (now (vertices .entry)) p (now (arcs .entry)) (now (edges .entry)) (now (faces .entry)) (now (counters .entry))) (listOf right)) 0) ⌝ }
 {
     lists::known_few(left);
@@ -244,7 +244,7 @@ pub fn split_work(
     edges::face::remove_face(arcs, faces, f);
     let mut seen = [false; MARKS];
     let mut links = [0u32; NEAR];
-    let around = near::near_edit(&mut seen, &mut links, arcs, edges, left, right, 1);
+    let around = near::near_edit(&mut seen, &mut links, arcs, edges, faces, left, right, 1);
     let by = around.by;
     let check = half_checks(arcs, left, &seen, &links, by);
     if !answers::accepted(check) {

@@ -65,6 +65,7 @@ fn corner(
         vertices,
         positions,
         counters,
+        0,
         Position { x, y: 0.0, z: 0.0 },
     );
     say::number(b"new vertex in row", row);
@@ -103,7 +104,7 @@ fn seams_shown(vertices: &[VertexRow], arcs: &[ArcRow], edges: &[EdgeRow]) {
 }
 
 fn panel(faces: &mut [FaceRow], counters: &mut [u32; 3], mark: u32) {
-    let row = face::new_face(faces, counters, 1, mark);
+    let row = face::new_face(faces, counters, 0, 1, mark);
     say::number(b"new face in row", row);
 }
 

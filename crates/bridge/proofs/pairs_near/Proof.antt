@@ -17,10 +17,10 @@ sources-requires-2 : tie.Need-sources-requires-2
 sources-requires-2 c κs = search needs
 
 near-edit-requires : tie.Need-near-edit-requires
-near-edit-requires c κs = omega (arith, c .before .before .before .before .before .before .before .before .size .ensures, c .before .before .before .before .before .before .before .before .before .known-few .ensures)
+near-edit-requires c κs = omega (arith, c .before .before .before .before .before .before .before .before .before .size .ensures, c .before .before .before .before .before .before .before .before .before .before .known-few .ensures)
 
 pairs-in-requires : tie.Need-pairs-in-requires
-pairs-in-requires c κs = (c .before .before .before .before .before .before .before .before .before .before .before .before .before .before .before .before .before .before .before .before .pre, c .before .before .before .before .before .before .before .before .before .near-edit .ensures)
+pairs-in-requires c κs = (c .before .before .before .before .before .before .before .before .before .before .before .before .before .before .before .before .before .before .before .before .before .pre, c .before .before .before .before .before .before .before .before .before .near-edit .ensures)
 
 same-length : tie.Need-same-length
 same-length c = c .before .before .before .before .before .before .pairs-in .kept .0

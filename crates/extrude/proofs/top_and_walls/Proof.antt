@@ -19,13 +19,13 @@ size-requires : tie.Need-size-requires
 size-requires c κs = search needs
 
 mul-near-edit : tie.Need-mul-near-edit
-mul-near-edit c = omega (arith, c .before .before .before .before .size .ensures, c .before .before .before .before .before .known-few .ensures)
+mul-near-edit c = omega (arith, c .before .before .before .before .before .size .ensures, c .before .before .before .before .before .before .known-few .ensures)
 
 near-edit-requires : tie.Need-near-edit-requires
-near-edit-requires c κs = omega (arith, c .before .before .before .before .size .ensures, c .before .before .before .before .before .known-few .ensures)
+near-edit-requires c κs = omega (arith, c .before .before .before .before .before .size .ensures, c .before .before .before .before .before .before .known-few .ensures)
 
 insert-face-requires : tie.Need-insert-face-requires
-insert-face-requires c κs = (c .before .before .before .before .before .before .before .before .before .before .before .before .before .before .before .before .pre, c .before .before .before .before .before .before .before .before .before .near-edit .ensures)
+insert-face-requires c κs = (c .before .before .before .before .before .before .before .before .before .before .before .before .before .before .before .before .before .pre, c .before .before .before .before .before .before .before .before .before .near-edit .ensures)
 
 accepted-requires : tie.Need-accepted-requires
 accepted-requires c κs = search needs
@@ -51,14 +51,14 @@ same-length-6 c = c .before .before .before .before .before .before .before .bef
 returns : tie.Need-returns
 returns c =
     λ p.
-    let a = c .before .before .before .before .before .before .before .before .before .before .before .before .before .before .before .before .before .before .before .before .before .before .before .before .before .args in
+    let a = c .before .before .before .before .before .before .before .before .before .before .before .before .before .before .before .before .before .before .before .before .before .before .before .before .before .before .args in
     let g = c .before .before .before .before .before .before .before .before .insert-face in
     top-refused (mesh (a .vertices .now) p (a .arcs .now) (a .edges .now) (a .faces .now) (a .counters .now)) (listOf (a .vs)) (listOf (a .ds)) (mesh (g .last .0) p (g .last .1 .0) (g .last .1 .1 .0) (g .last .1 .1 .1 .0) (g .last .1 .1 .1 .1 .0)) (g .result) (g .ensures p) (sym (c .before .accepted .ensures) ∙ not-true _ (c .if1 .taken))
 
 walls-in-requires : tie.Need-walls-in-requires
 walls-in-requires c κs =
-    let a = c .before .before .before .before .before .before .before .before .before .before .before .before .before .before .before .before .before .before .before .before .before .before .before .before .before .before .before .before .before .before .before .before .before .before .args in
-    let q = c .before .before .before .before .before .before .before .before .before .before .before .before .before .before .before .before .before .before .before .before .before .before .before .before .before .before .before .before .before .before .before .before .before .before .pre in
+    let a = c .before .before .before .before .before .before .before .before .before .before .before .before .before .before .before .before .before .before .before .before .before .before .before .before .before .before .before .before .before .before .before .before .before .before .before .args in
+    let q = c .before .before .before .before .before .before .before .before .before .before .before .before .before .before .before .before .before .before .before .before .before .before .before .before .before .before .before .before .before .before .before .before .before .before .before .pre in
     let g = c .before .before .before .before .before .before .before .before .before .before .before .before .before .before .before .before .before .insert-face in
     let k = c .before .before .before .before .before .before .before .before .before .before .before .before .before .before .before .before .before .before .before .before .before .before .before .before .before .before .before .near-edit in
     let m : Mesh = mesh (a .vertices .now) [] (a .arcs .now) (a .edges .now) (a .faces .now) (a .counters .now) in
@@ -88,7 +88,7 @@ same-length-12 c = c .before .before .before .before .before .before .walls-in .
 returns-2 : tie.Need-returns-2
 returns-2 c =
     λ p.
-    let a = c .before .before .before .before .before .before .before .before .before .before .before .before .before .before .before .before .before .before .before .before .before .before .before .before .before .before .before .before .before .before .before .before .before .before .before .before .before .before .before .before .before .args in
+    let a = c .before .before .before .before .before .before .before .before .before .before .before .before .before .before .before .before .before .before .before .before .before .before .before .before .before .before .before .before .before .before .before .before .before .before .before .before .before .before .before .before .before .before .args in
     let g = c .before .before .before .before .before .before .before .before .before .before .before .before .before .before .before .before .before .before .before .before .before .before .before .before .insert-face in
     let t = c .before .before .before .before .before .before .walls-in in
     top-goes (mesh (a .vertices .now) p (a .arcs .now) (a .edges .now) (a .faces .now) (a .counters .now)) (listOf (a .vs)) (listOf (a .ds)) (mesh (g .last .0) p (g .last .1 .0) (g .last .1 .1 .0) (g .last .1 .1 .1 .0) (g .last .1 .1 .1 .1 .0)) (g .result) (g .ensures p) (sym (c .before .before .before .before .before .before .before .before .before .before .before .before .before .before .before .before .before .accepted .ensures) ∙ not-false _ (c .before .before .before .before .before .before .before .before .before .before .before .before .before .before .before .before .if1 .left)) (step (mesh (t .last .0) p (t .last .1 .0) (t .last .1 .1 .0) (t .last .1 .1 .1 .0) (t .last .1 .1 .1 .1 .0)) (t .result)) (t .ensures p)

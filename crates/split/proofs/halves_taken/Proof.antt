@@ -25,10 +25,10 @@ put-face-taken-requires c κs =
     let a = c .before .before .before .before .before .before .before .before .before .before .before .args in
     let q = c .before .before .before .before .before .before .before .before .before .before .before .pre in
     let found = c .before .before .before .before .before .perimeter-arcs-near in
-    ((q .0 .0, arcs-held (a .arcs .now) (listOf (a .left)) (found .result) (c .before .before .before .before .before .before .before .before .before .before .known-few .ensures) (found .ensures)), (q .1 .arcs-used, q .1 .edges-used))
+    ((q .0 .0, arcs-held (a .arcs .now) (listOf (a .left)) (found .result) (c .before .before .before .before .before .before .before .before .before .before .known-few .ensures) (found .ensures)), (q .1 .arcs-used, (q .1 .edges-used, q .1 .faces-used)))
 
 -- what is known after the left half is in
-known-left : (c : tie.After-put-face-taken) → let s = c .before .before .before .before .before .before .before .before .before .before .before .before in let g = c .put-face-taken in Known (g .last .1 .0) (g .last .1 .1 .0) (s .args .seen .now) (s .args .near .now) (s .args .around)
+known-left : (c : tie.After-put-face-taken) → let s = c .before .before .before .before .before .before .before .before .before .before .before .before in let g = c .put-face-taken in Known (g .last .1 .0) (g .last .1 .1 .0) (g .last .1 .1 .1 .0) (s .args .seen .now) (s .args .near .now) (s .args .around)
 known-left c =
     let s = c .before .before .before .before .before .before .before .before .before .before .before .before in
     let a = s .args in
@@ -45,7 +45,7 @@ put-face-taken-requires-2 c κs =
     let a = c .before .before .before .before .before .before .before .before .before .before .before .before .before .before .before .before .before .before .before .before .before .before .before .args in
     let k = known-left (c .before .before .before .before .before .before .before .before .before .before .before) in
     let found = c .before .before .before .before .before .perimeter-arcs-near2 in
-    ((c .before .before .before .before .before .before .before .before .before .before .before .before .before .before .before .before .before .before .before .before .before .before .before .pre .0 .1, arcs-held (c .before .before .before .before .before .before .before .before .before .before .before .put-face-taken .last .1 .0) (listOf (a .right)) (found .result) (c .before .before .before .before .before .before .before .before .before .before .before .before .before .before .before .before .before .before .before .before .before .known-few2 .ensures) (found .ensures)), (k .arcs-used, k .edges-used))
+    ((c .before .before .before .before .before .before .before .before .before .before .before .before .before .before .before .before .before .before .before .before .before .before .before .pre .0 .1, arcs-held (c .before .before .before .before .before .before .before .before .before .before .before .put-face-taken .last .1 .0) (listOf (a .right)) (found .result) (c .before .before .before .before .before .before .before .before .before .before .before .before .before .before .before .before .before .before .before .before .before .known-few2 .ensures) (found .ensures)), (k .arcs-used, (k .edges-used, k .faces-used)))
 
 same-length : tie.Need-same-length
 same-length c = search needs

@@ -4,8 +4,8 @@ use borrow.Author.Needs.{needs}
 use Rattle.edges.proofs.edge.new_arc.Statement.{statement}
 use Rattle.edges.proofs.edge.new_arc.Tie as tie
 
-free-arc-requires : tie.Need-free-arc-requires
-free-arc-requires c κs = search needs
+free6-requires : tie.Need-free6-requires
+free6-requires c κs = search needs
 
 put-row6-requires : tie.Need-put-row6-requires
 put-row6-requires c κs = search needs
@@ -22,14 +22,14 @@ same-length-2 c = search needs
 returns : tie.Need-returns
 unfolding newArc
 returns c =
-    let row = c .before .before .before .before .before .before .free-arc .ensures in
+    let row = c .before .before .before .before .before .before .free6 .ensures in
     (row, λ p d f k. rw (← row, ← c .before .before .before .before .put-row6 .ensures, ← c .before .set-leading .ensures))
 
 pub new-arc-spec : {M : Type 1} → statement M
 new-arc-spec =
     tie.close
     (tie.spec
-    free-arc-requires
+    free6-requires
     put-row6-requires
     set-leading-requires
     same-length

@@ -8,8 +8,8 @@ use borrow.Author.Needs.{needs}
 use Rattle.edges.proofs.edge.new_edge_from.Statement.{statement}
 use Rattle.edges.proofs.edge.new_edge_from.Tie as tie
 
-free-edge-requires : tie.Need-free-edge-requires
-free-edge-requires c κs = search needs
+free3-requires : tie.Need-free3-requires
+free3-requires c κs = search needs
 
 new-arc-requires : tie.Need-new-arc-requires
 new-arc-requires c κs = search needs
@@ -47,16 +47,16 @@ returns c =
     let s = c .before .before .before .before .before .before .before .before .before .before .before .before .before .before .before .before .before in
     let e = now (s .args .edges) in
     let k = now (s .args .counters) in
-    let row = c .before .before .before .before .before .before .before .before .before .before .before .before .before .before .before .free-edge in
+    let row = c .before .before .before .before .before .before .before .before .before .before .before .before .before .before .before .free3 in
     let one = c .before .before .before .before .before .before .before .before .before .before .before .before .new-arc in
     let two = c .before .before .before .before .before .before .before .new-arc2 in
-    (λ i. record { arc = one .ensures .0 i; edge = row .ensures i }, λ p f. rw (← row .ensures, ← one .ensures .1 p e f k, ← two .ensures .1 p e f k, ← one .ensures .0, ← two .ensures .0, ← c .before .before .before .one-up .ensures, ← c .before .put-row3 .ensures))
+    (λ i. record { arc = one .ensures .0 i; edge = row .ensures i; face = s .args .from .face }, λ p f. rw (← row .ensures, ← one .ensures .1 p e f k, ← two .ensures .1 p e f k, ← one .ensures .0, ← two .ensures .0, ← c .before .before .before .one-up .ensures, ← c .before .put-row3 .ensures))
 
 pub new-edge-from-spec : {M : Type 1} → statement M
 new-edge-from-spec =
     tie.close
     (tie.spec
-    free-edge-requires
+    free3-requires
     new-arc-requires
     new-arc-requires-2
     element-copy-out-key

@@ -17,7 +17,7 @@ element-copy-out-key c = search needs
 insert-by-requires : tie.Need-insert-by-requires
 insert-by-requires c κs =
     let s = c .before .before .before .before .before .before .before .before .before .before in
-    (s .pre, (c .before .before .before .before .before .before .before .before .corners-between .ensures .0 .found, (used-none (s .args .arcs .now), used-none (s .args .edges .now))))
+    (s .pre, (c .before .before .before .before .before .before .before .before .corners-between .ensures .0 .found, (used-none (s .args .arcs .now), (used-none (s .args .edges .now), used-none (s .args .faces .now)))))
 
 same-length : tie.Need-same-length
 same-length c = c .before .before .before .before .before .before .insert-by .kept .0

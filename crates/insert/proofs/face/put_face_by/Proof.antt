@@ -18,7 +18,7 @@ item-requires : tie.Need-item-requires
 item-requires c κs = search needs
 
 new-face-requires : tie.Need-new-face-requires
-new-face-requires c κs = search needs
+new-face-requires c κs = used-none (c .before .before .before .before .before .before .before .before .before .before .before .before .before .args .faces .now)
 
 interior-requires : tie.Need-interior-requires
 interior-requires c κs = search needs

@@ -9,7 +9,9 @@ use Rattle.insert.proofs.face.put_face_taken.Statement.{statement}
 use Rattle.insert.proofs.face.put_face_taken.Tie as tie
 
 edges-in-requires : tie.Need-edges-in-requires
-edges-in-requires c κs = (c .before .before .before .before .pre .0 .1, c .before .before .before .before .pre .1)
+edges-in-requires c κs =
+    let s = c .before .before .before .before in
+    (s .pre .0 .1, (s .pre .1 .0, s .pre .1 .1 .0))
 
 arcs-told-requires : tie.Need-arcs-told-requires
 arcs-told-requires c κs = c .before .before .before .before .edges-in .ensures .1

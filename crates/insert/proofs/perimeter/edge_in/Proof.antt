@@ -91,7 +91,7 @@ returns-3 c =
     let m₁ = mesh (g .last .0) [] (g .last .1 .0) (g .last .1 .1 .0) [] (g .last .1 .1 .1 .0) in (
       λ p q. pair-made (mesh (a .vertices .now) p (a .arcs .now) (a .edges .now) q (a .counters .now)) (listOf (a .per)) (a .i) (n .ensures) (j .ensures) (f .ensures) (t .ensures) x none (g .ensures .1 p q),
       (
-        may-next m₀ m₁ (f .result) (t .result) (g .result) (g .ensures .1 [] []) (g .ensures .0),
+        may-next m₀ m₁ (f .result) (t .result) (a .from .face) (g .result) (g .ensures .1 [] []) (g .ensures .0),
         λ known. (apart, pair-told m₀ (listOf (a .per)) (a .i) (n .ensures) (j .ensures) (f .ensures) (t .ensures) {o = m₁} x none (g .ensures .1 [] []) (ap (λ (w : Lowest). w .arc) (g .ensures .0)) known (c .arc-known .ensures known)),
       ),
     )

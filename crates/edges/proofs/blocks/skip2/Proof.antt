@@ -1,0 +1,58 @@
+-- `edges::blocks::skip2` meets its contract. The loop keeps that the rows gone through are used; laws of Runs. Assumes nothing.
+use Prim.Native.Nat.{_+_, _-_}
+use lib.ListN.{length}
+use borrow.Author.Tests.{not-false}
+use Rattle.edges.specs.Free.{UsedUpTo}
+use Rattle.edges.proofs.Runs.{no-rows, join-runs}
+use borrow.Author.Needs.{needs}
+use Rattle.edges.proofs.blocks.skip2.Statement.{statement}
+use Rattle.edges.proofs.blocks.skip2.Tie as tie
+
+abbrev Inv-loop : tie.InvT-loop
+Inv-loop rows from i₀ i = UsedUpTo rows from i
+
+abbrev μ-loop : tie.MeasureT-loop
+μ-loop rows from i₀ i = length rows - i
+
+loop-holds : tie.Need-loop-holds Inv-loop μ-loop
+loop-holds c = let a = c .args in (search needs, (search needs, no-rows (a .rows .now) (a .from) (a .from) (search needs)))
+
+sub-loop : tie.Need-sub-loop Inv-loop μ-loop
+sub-loop c = search needs
+
+used-block2-requires : tie.Need-used-block2-requires Inv-loop μ-loop
+used-block2-requires c κs = search needs
+
+returns : tie.Need-returns Inv-loop μ-loop
+returns c = c .before .before .before .loop .inv
+
+add-i : tie.Need-add-i Inv-loop μ-loop
+add-i c = search needs
+
+loop-less : tie.Need-loop-less Inv-loop μ-loop
+loop-less c = search needs
+
+loop-again : tie.Need-loop-again Inv-loop μ-loop
+loop-again c =
+    let l = c .before .before .before in
+    let a = l .before .args in
+    let i = l .loop .i in
+    (search needs, (search needs, join-runs (a .rows .now) (a .from) i (i + 8) (l .loop .inv .1 .1) (c .before .used-block2 .ensures (not-false _ (c .if1 .left)))))
+
+returns-2 : tie.Need-returns-2 Inv-loop μ-loop
+returns-2 c = c .before .loop .inv
+
+pub skip2-spec : {M : Type 1} → statement M
+skip2-spec =
+    tie.close
+    (tie.spec
+    Inv-loop
+    μ-loop
+    loop-holds
+    sub-loop
+    used-block2-requires
+    returns
+    add-i
+    loop-less
+    loop-again
+    returns-2)

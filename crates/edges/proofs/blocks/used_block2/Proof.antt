@@ -1,0 +1,66 @@
+-- `edges::blocks::used_block2` meets its contract. The loop keeps that, where all tests so far passed, the rows gone through are used; laws of
+-- Runs. Assumes nothing.
+use Prim.Native.Nat.{_+_, _-_, _≤_}
+use native.Mathlib.Omega.{arith}
+use mathlib.Core.Path.{_≡_}
+use mathlib.Core.Bool.{true}
+use Rattle.edges.specs.Free.{UsedRows}
+use Rattle.edges.proofs.Runs.{no-rows, one-more, block-used}
+use borrow.Author.Needs.{needs}
+use Rattle.edges.proofs.blocks.used_block2.Statement.{statement}
+use Rattle.edges.proofs.blocks.used_block2.Tie as tie
+
+abbrev Inv-loop : tie.InvT-loop
+Inv-loop rows i used₀ k₀ used k = (k ≤ 8) × (used ≡ true → UsedRows rows i (i + k))
+
+abbrev μ-loop : tie.MeasureT-loop
+μ-loop rows i used₀ k₀ used k = 8 - k
+
+loop-holds : tie.Need-loop-holds Inv-loop μ-loop
+loop-holds c = let a = c .args in (search needs, λ e. no-rows (a .rows .now) (a .i) (a .i + 0) (omega arith))
+
+add-used : tie.Need-add-used Inv-loop μ-loop
+add-used c = search needs
+
+mul-used : tie.Need-mul-used Inv-loop μ-loop
+mul-used c = search needs
+
+index-1-used : tie.Need-index-1-used Inv-loop μ-loop
+index-1-used c = search needs
+
+index-2-used : tie.Need-index-2-used Inv-loop μ-loop
+index-2-used c = search needs
+
+add-k : tie.Need-add-k Inv-loop μ-loop
+add-k c = search needs
+
+loop-less : tie.Need-loop-less Inv-loop μ-loop
+loop-less c = search needs
+
+loop-again : tie.Need-loop-again Inv-loop μ-loop
+loop-again c =
+    let l = c .before .before in
+    let a = l .before .args in
+    (search needs, one-more (a .rows .now) (a .i) (l .loop .k) (l .loop .used) (l .loop .inv .1))
+
+returns : tie.Need-returns Inv-loop μ-loop
+returns c =
+    let l = c .before in
+    let a = l .before .args in
+    block-used (a .rows .now) (a .i) (l .loop .k) (l .loop .used) (omega arith) (omega arith) (l .loop .inv .1)
+
+pub used-block2-spec : {M : Type 1} → statement M
+used-block2-spec =
+    tie.close
+    (tie.spec
+    Inv-loop
+    μ-loop
+    loop-holds
+    add-used
+    mul-used
+    index-1-used
+    index-2-used
+    add-k
+    loop-less
+    loop-again
+    returns)

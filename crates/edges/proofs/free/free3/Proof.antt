@@ -1,0 +1,95 @@
+-- `edges::free::free3` meets its contract. The invariant: no row before i is unused. The measure is what is left of the table. Assumes nothing.
+use Prim.Native.Nat.{_-_}
+use mathlib.Core.List.{[]}
+use lib.ListN.{length}
+use borrow.Author.Count.{below-more}
+use borrow.Author.Tests.{eq-eqb, ne-eqb}
+use Rattle.rules.specs.Table.{firstRow, unused, freeRow}
+use Rattle.tables.proofs.Scans.{Missed, into-large, into-found, into-none}
+use Rattle.edges.proofs.Searches.{used-within, used-missed}
+use borrow.Author.Needs.{needs}
+use Rattle.edges.proofs.free.free3.Statement.{statement}
+use Rattle.edges.proofs.free.free3.Tie as tie
+
+abbrev Inv-loop : tie.InvT-loop
+Inv-loop rows from i₀ i = Missed unused rows [] i
+
+abbrev μ-loop : tie.MeasureT-loop
+μ-loop rows from i₀ i = length rows - i
+
+returns : tie.Need-returns Inv-loop μ-loop
+unfolding freeRow
+returns c =
+    let t = c .before .args .rows .now in
+    into-large t (firstRow unused t) (c .if1 .taken)
+
+row-of-requires : tie.Need-row-of-requires Inv-loop μ-loop
+row-of-requires c κs = search needs
+
+skip3-requires : tie.Need-skip3-requires Inv-loop μ-loop
+skip3-requires c κs =
+    let s = c .before .before in
+    used-within (s .args .rows .now) (s .args .from) (c .row-of .result) (c .row-of .ensures) (s .pre)
+
+loop-holds : tie.Need-loop-holds Inv-loop μ-loop
+loop-holds c =
+    let o = c .before .row-of in
+    let s = c .before .before .before in
+    used-missed (s .args .rows .now) (s .args .from) (o .result) (c .skip3 .result) (o .ensures) (s .pre) (c .skip3 .ensures .1 .1)
+
+mul-if2 : tie.Need-mul-if2 Inv-loop μ-loop
+mul-if2 c = search needs
+
+index-1-if2 : tie.Need-index-1-if2 Inv-loop μ-loop
+index-1-if2 c = search needs
+
+index-2-if2 : tie.Need-index-2-if2 Inv-loop μ-loop
+index-2-if2 c = search needs
+
+cast-result : tie.Need-cast-result Inv-loop μ-loop
+cast-result c = search needs
+
+add-result : tie.Need-add-result Inv-loop μ-loop
+add-result c = search needs
+
+returns-2 : tie.Need-returns-2 Inv-loop μ-loop
+unfolding freeRow
+returns-2 c =
+    let l = c .before .before .before in
+    into-found unused (l .before .before .before .before .args .rows .now) [] (l .loop .i) (l .before .before .before .if1 .left) (c .before .before .loop-test .taken) (l .loop .inv) (eq-eqb _ _ (c .if2 .taken))
+
+add-i : tie.Need-add-i Inv-loop μ-loop
+add-i c = search needs
+
+loop-less : tie.Need-loop-less Inv-loop μ-loop
+loop-less c = search needs
+
+loop-again : tie.Need-loop-again Inv-loop μ-loop
+loop-again c = below-more _ _ (c .before .before .before .loop .inv) (ne-eqb _ _ (c .if2 .left))
+
+returns-3 : tie.Need-returns-3 Inv-loop μ-loop
+unfolding freeRow
+returns-3 c =
+    let l = c .before in
+    into-none unused (l .before .before .before .before .args .rows .now) [] (l .loop .i) (c .loop-test .left) (l .loop .inv)
+
+pub free3-spec : {M : Type 1} → statement M
+free3-spec =
+    tie.close
+    (tie.spec
+    Inv-loop
+    μ-loop
+    returns
+    row-of-requires
+    skip3-requires
+    loop-holds
+    mul-if2
+    index-1-if2
+    index-2-if2
+    cast-result
+    add-result
+    returns-2
+    add-i
+    loop-less
+    loop-again
+    returns-3)
