@@ -5,21 +5,24 @@ use native.Mathlib.Numerals.{add-one}
 use native.Mathlib.Omega.{arith}
 use native.Mathlib.Decide.{ℕ-discrete, decLt}
 use borrow.Author.Count.{below-none, below-more}
-use borrow.Author.Tests.{eq-eqb, ne-eqb}
+use borrow.Author.Tests.{eq-eqb, ne-eqb, lt-ltb, le-ltb}
 use mathlib.Core.Path.{_≡_, refl, ap, sym, _∙_, subst}
-use mathlib.Core.Bool.{Bool, true, false, cond}
+use mathlib.Core.Bool.{Bool, true, false, cond, _&&_}
 use mathlib.Core.List.{List, [], _∷_, _++_}
 use lib.ListN.{length, getD, set, take, replicate, length-set, length-replicate, List·getD-eq-default}
 use lib.Seq.{getD-set-same, getD-set-other}
-use Rattle.rules.specs.Table.{Table, cell, has, rowLimit}
-use Rattle.rules.specs.Mesh.{joins, arcBetween, linksOf}
-use Rattle.tables.proofs.Scans.{Missed, into-found, into-none}
-use Rattle.pairs.specs.Pairs.{arcsOf}
-use Rattle.pairs.specs.Near.{isMarked, Listing, AllFrom, leads, Least}
+use lib.Dec.{eqb, ltb}
+use Rattle.rules.specs.declared.Links.{Links}
+use Rattle.rules.specs.Table.{Table, cell, has, after, rowLimit}
+use Rattle.rules.specs.Mesh.{joins, arcBetween, linksOf, listOf}
+use Rattle.tables.proofs.Scans.{into-found, into-none}
+use Rattle.pairs.specs.Pairs.{arcsOf, runsAt}
+use Rattle.pairs.specs.Near.{isMarked, Listing, AllFrom, leads, Least, lowerLink, LinkNoted}
 use Rattle.pairs.proofs.Filled.{some-link}
 use Rattle.pairs.proofs.Has.{has-before, has-read}
 use Rattle.pairs.proofs.Listing.{both}
-use Rattle.pairs.proofs.Pass.{joined, from-some, from, to, places-told, zeros}
+use Rattle.pairs.proofs.Steps.{item-is}
+use Rattle.pairs.proofs.Pass.{joined, from-none, from-some, from, to, places-told, zeros}
 
 -- an arc that leaves a vertex with a mark
 pub all-from : (arcs : Table) (seen : List Bool) (list : List ℕ) (spare a : ℕ) → Listing arcs seen list spare → isMarked seen a ≡ true → AllFrom arcs list a
@@ -48,14 +51,14 @@ module _ (arcs : Table) (a b : ℕ) where
         in-list : (y : ℕ) → has (list ++ (x ∷ [])) y ≡ true → leads arcs a b y ≡ true → has list y ≡ true
         in-list y q l = has-before list x y (λ e. both (sym l ∙ ap (leads arcs a b) e ∙ un)) q
 
-    pub least-kept : (m ≡ 0 → ⊥) → m ≤ x → Least arcs a b (list ++ (x ∷ [])) m
+    least-kept : (m ≡ 0 → ⊥) → m ≤ x → Least arcs a b (list ++ (x ∷ [])) m
     least-kept nz le = record { is = h .is; some = λ y q l. nz; low = λ y q l. go y q l (ℕ-discrete y x) }
       where
         go : (y : ℕ) → has (list ++ (x ∷ [])) y ≡ true → leads arcs a b y ≡ true → Dec (y ≡ x) → m ≤ y
         go y q l (yes e) = omega arith
         go y q l (no ne) = h .low y (has-before list x y ne q) l
 
-    pub least-here : (s d : ℕ) → (a ≡ 0 → ⊥) → s ≡ cell arcs x 0 → d ≡ cell arcs x 1 → s ≡ a → d ≡ b → ((m ≡ 0 → ⊥) → x ≤ m) → Least arcs a b (list ++ (x ∷ [])) x
+    least-here : (s d : ℕ) → (a ≡ 0 → ⊥) → s ≡ cell arcs x 0 → d ≡ cell arcs x 1 → s ≡ a → d ≡ b → ((m ≡ 0 → ⊥) → x ≤ m) → Least arcs a b (list ++ (x ∷ [])) x
     least-here s d na es ed ea eb le = record {
       is = λ u. rw (eq-eqb (cell arcs x 0) a (sym es ∙ ea), eq-eqb (cell arcs x 1) b (sym ed ∙ eb));
       some = λ y q l z. omega (arith, some-link arcs x (λ e. na (sym ea ∙ es ∙ e)));
@@ -65,6 +68,17 @@ module _ (arcs : Table) (a b : ℕ) where
         go : (y : ℕ) → has (list ++ (x ∷ [])) y ≡ true → leads arcs a b y ≡ true → Dec (y ≡ x) → x ≤ y
         go y q l (yes e) = omega arith
         go y q l (no ne) = omega (arith, le (h .some y (has-before list x y ne q) l), h .low y (has-before list x y ne q) l)
+
+    pub least-lower : (s d : ℕ) → (a ≡ 0 → ⊥) → s ≡ cell arcs x 0 → d ≡ cell arcs x 1 → s ≡ a → d ≡ b → Least arcs a b (list ++ (x ∷ [])) (lowerLink m x)
+    unfolding lowerLink
+    least-lower s d na es ed ea eb = go (ℕ-discrete m 0) (decLt x m)
+      where
+        go : Dec (m ≡ 0) → Dec (x < m) → Least arcs a b (list ++ (x ∷ [])) (cond (eqb m 0) x (cond (ltb x m) x m))
+        go (yes z) l = rw (eq-eqb m 0 z) (least-here s d na es ed ea eb (λ nz. absurd (nz z)))
+        go (no nz) (yes l) = rw (ne-eqb m 0 nz, lt-ltb x m l) (least-here s d na es ed ea eb (λ u. omega arith))
+        go (no nz) (no nl) =
+            let le : m ≤ x = omega arith in
+            rw (ne-eqb m 0 nz, le-ltb x m le) (least-kept nz le)
 
   -- so it is among fewer links
   pub least-read : (at : List ℕ) (n m : ℕ) → Least arcs a b (take n at ++ (getD at n 0 ∷ [])) m → Least arcs a b (take (n + 1) at) m
@@ -100,24 +114,107 @@ module _ (arcs : Table) (a b : ℕ) where
           within : m - 1 < length arcs
           within = on (decLt (m - 1) (length arcs))
 
+-- ---- one link noted at its pairs
+
+module _ (f t : List ℕ) (s d x : ℕ) (at₀ : List ℕ) where
+  pub noted-start : LinkNoted f t s d x at₀ 0 at₀
+  noted-start = record { size = refl; told = below-none _; past = λ j q. refl }
+
+  module _ (i : ℕ) (at : List ℕ) (h : LinkNoted f t s d x at₀ i at) where
+    pub noted-here : (y : ℕ) → s ≡ getD f i 0 → d ≡ getD t i 0 → y ≡ lowerLink (getD at i 0) x → LinkNoted f t s d x at₀ (i + 1) (set at i y)
+    unfolding runsAt
+    noted-here y es ed ey = record {
+      size = length-set at i y ∙ h .size;
+      told = below-more _ i (λ j q on. getD-set-other at i j y 0 (λ e. omega arith) ∙ h .told j q (omega (arith, length-set at i y))) (λ on. getD-set-same at i y 0 (omega (arith, length-set at i y)) ∙ ey ∙ rw (eq-eqb s (getD f i 0) es, eq-eqb d (getD t i 0) ed, h .past i (le-refl i)));
+      past = λ j q. getD-set-other at i j y 0 (λ e. omega arith) ∙ h .past j (omega arith);
+    }
+
+    noted-next : runsAt f t s d i ≡ false → LinkNoted f t s d x at₀ (i + 1) at
+    noted-next un = record {
+      size = h .size;
+      told = below-more _ i (h .told) (λ on. rw (un, h .past i (le-refl i)));
+      past = λ j q. h .past j (omega arith);
+    }
+
+    pub noted-starts : (s ≡ getD f i 0 → ⊥) → LinkNoted f t s d x at₀ (i + 1) at
+    unfolding runsAt
+    noted-starts ns = noted-next (rw (ne-eqb s (getD f i 0) ns))
+
+    pub noted-leads : s ≡ getD f i 0 → (d ≡ getD t i 0 → ⊥) → LinkNoted f t s d x at₀ (i + 1) at
+    unfolding runsAt
+    noted-leads es nd = noted-next (rw (eq-eqb s (getD f i 0) es, ne-eqb d (getD t i 0) nd))
+
 -- ---- all pairs
 
-module _ (arcs : Table) (per : List ℕ) where
-  -- the arcs of the first i
-  pub record Placed (i : ℕ) (at : List ℕ) : Type 0 where
-    pub size : length at ≡ 64
-    pub is : (j : ℕ) → j < i → getD at j 0 ≡ arcBetween arcs (from per j) (to per j)
-    pub clear : (j : ℕ) → i ≤ j → getD at j 0 ≡ 0
+pub after-on : (n i : ℕ) → i < n → after n i < n
+after-on n i l = go (ℕ-discrete (i + 1) n)
+  where
+    go : Dec (i + 1 ≡ n) → after n i < n
+    go (yes e) = rw (eq-eqb (i + 1) n e) (omega arith)
+    go (no ne) = rw (ne-eqb (i + 1) n ne) (omega arith)
 
-  pub placed-start : Placed 0 (replicate 64 0)
-  placed-start = record { size = length-replicate {A = ℕ} 64 0; is = below-none _; clear = λ j q. zeros j }
+-- where they lead, by the array that holds the perimeter
+pub ends-are : (per : Links) (n : ℕ) (t : List ℕ) → n ≡ length (listOf per) → ((j : ℕ) → j < n → getD t j 0 ≡ getD (per .at) (after n j) 0) → (i : ℕ) → i < length (listOf per) → getD t i 0 ≡ to (listOf per) i
+ends-are per n t e h i q = h i (omega arith) ∙ ap (λ (k : ℕ). getD (per .at) (after k i) 0) e ∙ item-is per (after (length (listOf per)) i) (after-on (length (listOf per)) i q)
 
-  pub placed-more : (i x : ℕ) (at : List ℕ) → i < 64 → x ≡ arcBetween arcs (from per i) (to per i) → Placed i at → Placed (i + 1) (set at i x)
-  placed-more i x at few e p = record {
-    size = length-set at i x ∙ p .size;
-    is = below-more _ i (λ j q. getD-set-other at i j x 0 (λ e. omega arith) ∙ p .is j q) (getD-set-same at i x 0 (omega (arith, p .size)) ∙ e);
-    clear = λ j q. getD-set-other at i j x 0 (λ e. omega arith) ∙ p .clear j (omega arith);
+module _ (arcs : Table) (f t : List ℕ) (size : ℕ) where
+  -- at each of the pairs stands the least link in the list, and none where the pair starts at none
+  pub record Sought (list at : List ℕ) : Type 0 where
+    pub places : length at ≡ 64
+    pub none : (i : ℕ) → i < size → getD f i 0 ≡ 0 → getD at i 0 ≡ 0
+    pub least : (i : ℕ) → i < size → (getD f i 0 ≡ 0 → ⊥) → Least arcs (getD f i 0) (getD t i 0) list (getD at i 0)
+    pub clear : (i : ℕ) → size ≤ i → getD at i 0 ≡ 0
+
+  pub sought-start : Sought [] (replicate 64 0)
+  sought-start = record {
+    places = length-replicate {A = ℕ} 64 0;
+    none = λ i q e. zeros i;
+    least = λ i q ne. rw (zeros i) (least-start arcs (getD f i 0) (getD t i 0));
+    clear = λ i q. zeros i;
   }
 
-  pub placed-end : (i : ℕ) (at : List ℕ) (n : ℕ) → n ≡ length per → length per ≤ 64 → i ≡ n → Placed i at → record { at = at; len = n } ≡ linksOf (arcsOf arcs per)
-  placed-end i at n e few q p = places-told arcs per at n e few (p .size) (λ j l. p .is j (omega arith)) (λ j l. p .clear j (omega arith))
+  module _ (list : List ℕ) (x : ℕ) (at : List ℕ) (h : Sought list at) where
+    other : (i : ℕ) → i < size → (getD f i 0 ≡ 0 → ⊥) → leads arcs (getD f i 0) (getD t i 0) x ≡ false → Least arcs (getD f i 0) (getD t i 0) (list ++ (x ∷ [])) (getD at i 0)
+    other i q ne = least-other arcs (getD f i 0) (getD t i 0) list (getD at i 0) x (h .least i q ne)
+
+    -- a link whose arc leaves none of the vertices
+    pub sought-skip : ((i : ℕ) → i < size → (getD f i 0 ≡ 0 → ⊥) → cell arcs x 0 ≡ getD f i 0 → ⊥) → Sought (list ++ (x ∷ [])) at
+    sought-skip un = record {
+      places = h .places;
+      none = h .none;
+      least = λ i q ne. other i q ne (rw (ne-eqb _ _ (un i q ne)));
+      clear = h .clear;
+    }
+
+    pub sought-note : (s d : ℕ) (at₁ : List ℕ) → size ≤ 64 → s ≡ cell arcs x 0 → d ≡ cell arcs x 1 → (s ≡ 0 → ⊥) → LinkNoted f t s d x at size at₁ → Sought (list ++ (x ∷ [])) at₁
+    unfolding runsAt
+    sought-note s d at₁ few es ed ns n = record {
+      places = n .size ∙ h .places;
+      none = λ i q z. n .told i q (on i q) ∙ rw (ne-eqb s (getD f i 0) (λ e. ns (e ∙ z))) (h .none i q z);
+      least = λ i q ne. rw (n .told i q (on i q)) (go i q ne (ℕ-discrete s (getD f i 0)) (ℕ-discrete d (getD t i 0)));
+      clear = λ i q. n .past i q ∙ h .clear i q;
+    }
+      where
+        on : (i : ℕ) → i < size → i < length at₁
+        on i q = omega (arith, n .size, h .places)
+
+        go : (i : ℕ) → i < size → (getD f i 0 ≡ 0 → ⊥) → Dec (s ≡ getD f i 0) → Dec (d ≡ getD t i 0) → Least arcs (getD f i 0) (getD t i 0) (list ++ (x ∷ [])) (cond (eqb s (getD f i 0) && eqb d (getD t i 0)) (lowerLink (getD at i 0) x) (getD at i 0))
+        go i q ne (yes e) (yes g) = rw (eq-eqb s (getD f i 0) e, eq-eqb d (getD t i 0) g) (least-lower arcs (getD f i 0) (getD t i 0) list (getD at i 0) x (h .least i q ne) s d ne es ed e g)
+        go i q ne (yes e) (no ng) = rw (eq-eqb s (getD f i 0) e, ne-eqb d (getD t i 0) ng) (other i q ne (rw (eq-eqb (cell arcs x 0) (getD f i 0) (sym es ∙ e), ne-eqb (cell arcs x 1) (getD t i 0) (λ z. ng (ed ∙ z)))))
+        go i q ne (no nf) g = rw (ne-eqb s (getD f i 0) nf) (other i q ne (rw (ne-eqb (cell arcs x 0) (getD f i 0) (λ z. nf (es ∙ z)))))
+
+  pub sought-read : (near : List ℕ) (n : ℕ) (at : List ℕ) → Sought (take n near ++ (getD near n 0 ∷ [])) at → Sought (take (n + 1) near) at
+  sought-read near n at h = record {
+    places = h .places;
+    none = h .none;
+    least = λ i q ne. least-read arcs (getD f i 0) (getD t i 0) near n (getD at i 0) (h .least i q ne);
+    clear = h .clear;
+  }
+
+  module _ (per : List ℕ) (e : size ≡ length per) (ef : (i : ℕ) → i < length per → getD f i 0 ≡ from per i) (et : (i : ℕ) → i < length per → getD t i 0 ≡ to per i) where
+    pub sought-end : (list at : List ℕ) → length per ≤ 64 → length arcs ≤ rowLimit → ((i : ℕ) → i < length per → AllFrom arcs list (from per i)) → Sought list at → record { at = at; len = size } ≡ linksOf (arcsOf arcs per)
+    sought-end list at few fits all h = places-told arcs per at size e few (h .places) (λ i q. rw (← ef i q, ← et i q) (is i q (ℕ-discrete (getD f i 0) 0))) (λ i q. h .clear i (omega arith))
+      where
+        is : (i : ℕ) → i < length per → Dec (getD f i 0 ≡ 0) → getD at i 0 ≡ arcBetween arcs (getD f i 0) (getD t i 0)
+        is i q (yes z) = h .none i (omega arith) z ∙ from-none arcs (getD f i 0) (getD t i 0) z
+        is i q (no ne) = least-is arcs (getD f i 0) (getD t i 0) list (getD at i 0) ne fits (rw (ef i q) (all i q)) (h .least i (omega arith) ne)

@@ -21,7 +21,7 @@ pub marks-more : (l : List ℕ) (seen₀ seen : List Bool) (i x y : ℕ) → x �
 marks-more l seen₀ seen i x y ex ey h = rw (upTo-more, ← h, ey, ex)
 
 -- the array that holds a list, at a place of the list
-item-is : (per : Links) (i : ℕ) → i < length (listOf per) → getD (per .at) i 0 ≡ getD (listOf per) i 0
+pub item-is : (per : Links) (i : ℕ) → i < length (listOf per) → getD (per .at) i 0 ≡ getD (listOf per) i 0
 unfolding listOf
 item-is per i on = sym (item-in per i (omega (arith, length-take (per .len) (per .at))))
 

@@ -2,12 +2,12 @@
 -- the edit's new arcs take. The list stays true as arcs are made, as long as its last unused row, the spare one, is unused.
 use Prim.Native.Nat.{ℕ, _+_, _%_, _≤_, _<_}
 use mathlib.Core.Path.{_≡_}
-use mathlib.Core.Bool.{Bool, true, false, _&&_}
+use mathlib.Core.Bool.{Bool, true, false, _&&_, cond}
 use mathlib.Core.List.{List, []}
 use lib.ListN.{length, getD}
-use lib.Dec.{eqb}
+use lib.Dec.{eqb, ltb}
 use Rattle.rules.specs.Table.{Table, cell, has, unused, rowLimit}
-use Rattle.pairs.specs.Pairs.{markCount}
+use Rattle.pairs.specs.Pairs.{markCount, runsAt}
 
 -- a vertex has a mark
 abbrev pub isMarked : List Bool → ℕ → Bool
@@ -55,7 +55,7 @@ pub record Tells (arcs : Table) (len spare : ℕ) : Type 0 where
   pub within : spare ≤ length arcs
   pub free : cell arcs spare 0 ≡ 0
   pub fits : length arcs ≤ rowLimit
-  pub few : len ≤ 512
+  pub few : len ≤ 1024
 
 -- every arc that leaves a is listed
 abbrev pub AllFrom : Table → List ℕ → ℕ → Type 0
@@ -70,3 +70,13 @@ pub record Least (arcs : Table) (a b : ℕ) (list : List ℕ) (m : ℕ) : Type 0
   pub is : (m ≡ 0 → ⊥) → leads arcs a b m ≡ true
   pub some : (x : ℕ) → has list x ≡ true → leads arcs a b x ≡ true → m ≡ 0 → ⊥
   pub low : (x : ℕ) → has list x ≡ true → leads arcs a b x ≡ true → m ≤ x
+
+-- the lesser of two links, where 0 is none
+unfoldable pub lowerLink : ℕ → ℕ → ℕ
+lowerLink m x = cond (eqb m 0) x (cond (ltb x m) x m)
+
+-- the link x noted at each of the first n pairs that runs from s to d and has no lesser link: what was noted before is at₀, and at is after
+pub record LinkNoted (from to : List ℕ) (s d x : ℕ) (at₀ : List ℕ) (n : ℕ) (at : List ℕ) : Type 0 where
+  pub size : length at ≡ length at₀
+  pub told : (j : ℕ) → j < n → j < length at → getD at j 0 ≡ cond (runsAt from to s d j) (lowerLink (getD at₀ j 0) x) (getD at₀ j 0)
+  pub past : (j : ℕ) → n ≤ j → getD at j 0 ≡ getD at₀ j 0

@@ -14,16 +14,13 @@ ghost use mathlib.Core.Bool.{Bool, true, false};
 ghost use mathlib.Core.List.{List, _∷_, _++_, []};
 ghost use Prim.Native.Nat.{ℕ, _+_, _<_, _≤_};
 ghost use lib.ListN.{length, getD, set, take};
-ghost use Rattle.rules.specs.Table.{unused};
+ghost use Rattle.rules.specs.Table.{unused, after};
 ghost use Rattle.rules.specs.Mesh.{linksOf, listOf, arcBetween};
 ghost use Rattle.pairs.specs.Pairs.{arcsOf, markedAt};
-ghost use Rattle.pairs.specs.Near.{isMarked, Near, Onward, ListedTo, Tells, AllFrom, Least};
+ghost use Rattle.pairs.specs.Near.{isMarked, Near, Onward, ListedTo, Tells, AllFrom, Least, lowerLink, LinkNoted};
 
 // How many links a list holds.
-pub const NEAR: usize = 512;
-
-// How many listed rows the lookups of one perimeter read at most: beyond that a pass is as fast.
-const LOOKUPS: usize = 4096;
+pub const NEAR: usize = 1024;
 
 // How many links are listed, the last unused row among them, and the lowest unused row; all 0 where the list tells nothing.
 pub struct Nearby {
@@ -42,7 +39,7 @@ struct Met {
 
 // They say only how many places there are.
 fn known_near(near: [u32; NEAR])
-    ensures { λ _. ⌜ length near ≡ 512 ⌝ }
+    ensures { λ _. ⌜ length near ≡ 1024 ⌝ }
 {}
 
 fn known_marks(seen: [bool; MARKS])
@@ -83,7 +80,7 @@ fn onward(
 
 // Row i listed, but an unused row only while such are left to list.
 fn meet(near: &mut [u32; NEAR], arcs: &[ArcRow], i: usize, m: Met) -> Met
-    requires { ⌜ (i < length (now arcs)) × ((length (now arcs) ≤ 16384) × (m .len < 512)) ⌝ }
+    requires { ⌜ (i < length (now arcs)) × ((length (now arcs) ≤ 16384) × (m .len < 1024)) ⌝ }
     ensures { λ r. ⌜ ((seen : List Bool) → ListedTo (now (arcs .entry)) seen (take (m .len) (now (near .entry))) i (m .spare) (m .first) (m .left) → ListedTo (now (arcs .entry)) seen (take (r .len) (now (near .exit))) (i + 1) (r .spare) (r .first) (r .left)) ⌝ }
 {
     known_near(*near);
@@ -190,7 +187,20 @@ fn all_marked(seen: &[bool; MARKS], list: Links) -> bool
     true
 }
 
-// The lesser of two links, the second only where it names an arc from a to b. 0 is none.
+// The lesser of two links. 0 is none.
+fn lower(m: u32, x: u32) -> u32
+    ensures { λ r. ⌜ r ≡ lowerLink m x ⌝ }
+{
+    if m == 0 {
+        return x;
+    }
+    if x < m {
+        return x;
+    }
+    m
+}
+
+// The lesser of two links, the second only where it names an arc from a to b.
 fn lesser(arcs: &[ArcRow], a: u32, b: u32, m: u32, x: u32) -> u32
     requires { ⌜ (a ≡ 0 → ⊥) ⌝ }
     ensures { λ r. ⌜ ((list : List ℕ) → Least (now (arcs .entry)) a b list m → Least (now (arcs .entry)) a b (list ++ (x ∷ [])) r) ⌝ }
@@ -201,18 +211,12 @@ fn lesser(arcs: &[ArcRow], a: u32, b: u32, m: u32, x: u32) -> u32
     if rows::cell6(arcs, x, 1) != b {
         return m;
     }
-    if m == 0 {
-        return x;
-    }
-    if x < m {
-        return x;
-    }
-    m
+    lower(m, x)
 }
 
 // The arc from a to b, by n listed links among which is every arc that leaves a.
 fn arc_listed(arcs: &[ArcRow], near: &[u32; NEAR], n: usize, a: u32, b: u32) -> u32
-    requires { ⌜ (n ≤ 512) × ((length (now arcs) ≤ 16384) × AllFrom (now arcs) (take n (now near)) a) ⌝ }
+    requires { ⌜ (n ≤ 1024) × ((length (now arcs) ≤ 16384) × AllFrom (now arcs) (take n (now near)) a) ⌝ }
     ensures { λ r. ⌜ r ≡ arcBetween (now (arcs .entry)) a b ⌝ }
 {
     if a == 0 {
@@ -227,24 +231,69 @@ fn arc_listed(arcs: &[ArcRow], near: &[u32; NEAR], n: usize, a: u32, b: u32) -> 
     m
 }
 
-// The arcs of all pairs in order, by n listed links among which is every arc that leaves one of the vertices.
+// The vertices that the pairs of a perimeter lead to.
+fn ends(per: Links) -> [u32; RING]
+    ensures { λ r. ⌜ ((i : ℕ) → i < length (listOf per) → getD r i 0 ≡ getD (listOf per) (after (length (listOf per)) i) 0) ⌝ }
+{
+    let n = lists::size(per);
+    lists::known_few(per);
+    let from = per.at;
+    let mut to = [0u32; RING];
+    let mut i: usize = 0;
+    while i < n {
+        to[i] = from[lists::place_after(n, i)];
+        i += 1;
+    }
+    to
+}
+
+// The link x of an arc from s to d, noted at each of the n pairs that run so and have no lesser link. Pair i runs from from[i] to to[i].
+fn note_listed(
+    at: &mut [u32; RING],
+    from: &[u32; RING],
+    to: &[u32; RING],
+    n: usize,
+    s: u32,
+    d: u32,
+    x: u32,
+)
+    requires { ⌜ n ≤ 64 ⌝ }
+    ensures { λ _. ⌜ LinkNoted (now (from .entry)) (now (to .entry)) s d x (now (at .entry)) n (now (at .exit)) ⌝ }
+{
+    let mut i: usize = 0;
+    while i < n {
+        if s == from[i] {
+            if d == to[i] {
+                at[i] = lower(at[i], x);
+            }
+        }
+        i += 1;
+    }
+}
+
+// The arcs of all pairs in order, in one pass over n listed links among which is every arc that leaves one of the vertices. The vertices are
+// marked first, and only an arc whose source has a mark is compared with the pairs.
 fn arcs_listed(arcs: &[ArcRow], per: Links, near: &[u32; NEAR], n: usize) -> Links
-    requires { ⌜ (n ≤ 512) × ((length (now arcs) ≤ 16384) × ((i : ℕ) → i < length (listOf per) → AllFrom (now arcs) (take n (now near)) (getD (listOf per) i 0))) ⌝ }
+    requires { ⌜ (n ≤ 1024) × ((length (now arcs) ≤ 16384) × ((i : ℕ) → i < length (listOf per) → AllFrom (now arcs) (take n (now near)) (getD (listOf per) i 0))) ⌝ }
     ensures { λ r. ⌜ r ≡ linksOf (arcsOf (now (arcs .entry)) (listOf per)) ⌝ }
 {
     let size = lists::size(per);
     lists::known_few(per);
+    let from = per.at;
+    let to = ends(per);
+    let mut seen = [false; MARKS];
+    mark(&mut seen, per);
     let mut at = [0u32; RING];
-    let mut i: usize = 0;
-    while i < size {
-        at[i] = arc_listed(
-            arcs,
-            near,
-            n,
-            lists::item(per, i),
-            lists::item(per, lists::place_after(size, i)),
-        );
-        i += 1;
+    let mut k: usize = 0;
+    while k < n {
+        let x = near[k];
+        let s = rows::cell6(arcs, x, 0);
+        if s != 0 {
+            if seen[rows::wide(s) % MARKS] {
+                note_listed(&mut at, &from, &to, size, s, rows::cell6(arcs, x, 1), x);
+            }
+        }
+        k += 1;
     }
     Links { at, len: size }
 }
@@ -260,12 +309,9 @@ pub fn perimeter_arcs_near(
     requires { ⌜ Near (now arcs) (now seen) (take (by .len) (now near)) (by .spare) ⌝ }
     ensures { λ r. ⌜ r ≡ linksOf (arcsOf (now (arcs .entry)) (listOf per)) ⌝ }
 {
-    lists::known_few(per);
     if tells(arcs, by) {
         if all_marked(seen, per) {
-            if lists::size(per) * by.len <= LOOKUPS {
-                return arcs_listed(arcs, per, near, by.len);
-            }
+            return arcs_listed(arcs, per, near, by.len);
         }
     }
     crate::perimeter_arcs(arcs, per)

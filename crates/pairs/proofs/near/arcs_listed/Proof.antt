@@ -1,22 +1,23 @@
--- `pairs::near::arcs_listed` meets its contract. The loop keeps the arcs of the pairs passed by; laws of Lookup. Assumes nothing.
-use Prim.Native.Nat.{ℕ, _-_, _≤_, _<_}
+-- `pairs::near::arcs_listed` meets its contract. The loop keeps at each pair the least link among those passed by; laws of Lookup. Assumes nothing.
+use Prim.Native.Nat.{_-_, _≤_}
 use native.Mathlib.Omega.{arith}
-use mathlib.Core.Path.{_≡_, ap, sym, _∙_, subst}
-use lib.ListN.{length, getD, take}
-use Rattle.rules.specs.Table.{after}
-use Rattle.rules.specs.Mesh.{arcBetween, listOf}
-use Rattle.pairs.specs.Near.{AllFrom}
-use Rattle.pairs.proofs.Pass.{from, to}
-use Rattle.pairs.proofs.Lookup.{Placed, placed-start, placed-more, placed-end}
+use mathlib.Core.Path.{_≡_, sym, _∙_}
+use mathlib.Core.Logic.{⊎-elim}
+use lib.ListN.{getD, take}
+use Rattle.rules.specs.Mesh.{listOf}
+use Rattle.pairs.specs.Pairs.{marksOf}
+use Rattle.pairs.proofs.Pass.{unmarked}
+use Rattle.pairs.proofs.Steps.{item-is}
+use Rattle.pairs.proofs.Lookup.{Sought, sought-start, sought-skip, sought-note, sought-read, sought-end}
 use borrow.Author.Needs.{needs}
 use Rattle.pairs.proofs.near.arcs_listed.Statement.{statement}
 use Rattle.pairs.proofs.near.arcs_listed.Tie as tie
 
 abbrev Inv-loop : tie.InvT-loop
-Inv-loop arcs per near n size at₀ i₀ at i = (i ≤ size) × Placed arcs (listOf per) i at
+Inv-loop arcs near n size from to seen at₀ k₀ at k = (k ≤ n) × Sought arcs from to size (take k near) at
 
 abbrev μ-loop : tie.MeasureT-loop
-μ-loop arcs per near n size at₀ i₀ at i = size - i
+μ-loop arcs near n size from to seen at₀ k₀ at k = n - k
 
 size-requires : tie.Need-size-requires Inv-loop μ-loop
 size-requires c κs = search needs
@@ -24,56 +25,78 @@ size-requires c κs = search needs
 known-few-requires : tie.Need-known-few-requires Inv-loop μ-loop
 known-few-requires c κs = search needs
 
+ends-requires : tie.Need-ends-requires Inv-loop μ-loop
+ends-requires c κs = search needs
+
+mark-requires : tie.Need-mark-requires Inv-loop μ-loop
+mark-requires c κs = search needs
+
 loop-holds : tie.Need-loop-holds Inv-loop μ-loop
-loop-holds c = let a = c .before .before .args in (search needs, placed-start (a .arcs .now) (listOf (a .per)))
+loop-holds c = (search needs, sought-start _ _ _ _)
 
-item-requires : tie.Need-item-requires Inv-loop μ-loop
-item-requires c κs = search needs
+mul-x : tie.Need-mul-x Inv-loop μ-loop
+mul-x c = search needs
 
-place-after-requires : tie.Need-place-after-requires Inv-loop μ-loop
-place-after-requires c κs = search needs
+element-copy-out-x : tie.Need-element-copy-out-x Inv-loop μ-loop
+element-copy-out-x c = search needs
 
-item-requires-2 : tie.Need-item-requires-2 Inv-loop μ-loop
-item-requires-2 c κs = search needs
+cell6-requires : tie.Need-cell6-requires Inv-loop μ-loop
+cell6-requires c κs = search needs
 
-arc-listed-requires : tie.Need-arc-listed-requires Inv-loop μ-loop
-arc-listed-requires c κs =
-    let l = c .before .before .before .before in
-    let s = l .before .before .before in
-    let a = s .args in
-    let on : l .loop .i < length (listOf (a .per)) = omega (arith, l .before .before .size .ensures) in
-    (s .pre .0, (s .pre .1 .0, subst (λ (v : ℕ). AllFrom (a .arcs .now) (take (a .n) (a .near .now)) v) (sym (c .before .before .item .ensures)) (s .pre .1 .1 (l .loop .i) on)))
+wide-requires : tie.Need-wide-requires Inv-loop μ-loop
+wide-requires c κs = search needs
 
-mul-at : tie.Need-mul-at Inv-loop μ-loop
-mul-at c = search needs
+array-read-if2 : tie.Need-array-read-if2 Inv-loop μ-loop
+array-read-if2 c = search needs
 
-array-write-at : tie.Need-array-write-at Inv-loop μ-loop
-array-write-at c = search needs
+cell6-requires-2 : tie.Need-cell6-requires-2 Inv-loop μ-loop
+cell6-requires-2 c κs = search needs
 
-add-i : tie.Need-add-i Inv-loop μ-loop
-add-i c = search needs
+note-listed-requires : tie.Need-note-listed-requires Inv-loop μ-loop
+note-listed-requires c κs =
+    let k = c .before .before .before .before .before .before .before .before .before .before .before .before .before .before .before in
+    omega (arith, k .known-few .ensures, k .before .size .ensures)
+
+add-k : tie.Need-add-k Inv-loop μ-loop
+add-k c = search needs
 
 loop-less : tie.Need-loop-less Inv-loop μ-loop
 loop-less c = search needs
 
 loop-again : tie.Need-loop-again Inv-loop μ-loop
+unfolding marksOf
 loop-again c =
-    let l = c .before .before .before .before .before in
-    let size = l .before .before .size in
-    let a = l .before .before .before .args in
+    let l = c .before .before .before .before in
+    let m = l .before in
+    let k = m .before .before .before .before in
+    let a = k .before .before .args in
+    let arcs = a .arcs .now in
     let per = listOf (a .per) in
-    let i = l .loop .i in
-    let next = c .before .before .place-after .ensures ∙ ap (λ (k : ℕ). after k i) (size .ensures) in
-    let two = c .before .item2 .ensures ∙ ap (λ (k : ℕ). getD per k 0) next in
-    let is : c .arc-listed .result ≡ arcBetween (a .arcs .now) (from per i) (to per i) = rw (← c .before .before .before .item .ensures, ← two) (c .arc-listed .ensures) in
-    (search needs, placed-more (a .arcs .now) per i (c .arc-listed .result) (l .loop .at) (omega (arith, size .ensures, l .before .known-few .ensures)) is (l .loop .inv .1))
+    let f = a .per .at in
+    let t = m .before .before .ends .result in
+    let size = k .before .size in
+    let near = a .near .now in
+    let x = getD near (l .loop .k) 0 in
+    let s = c .before .cell6 in
+    let list = take (l .loop .k) near in
+    let few : size .result ≤ 64 = omega (arith, k .known-few .ensures, size .ensures) in (
+      search needs,
+      sought-read arcs f t (size .result) near (l .loop .k) (c .if1 .at)
+          (⊎-elim (λ w. rw (w .8) (sought-note arcs f t (size .result) list x (l .loop .at) (l .loop .inv .1) (s .result) (w .6 .result) (w .7 .last .0) few (s .ensures) (w .6 .ensures) (w .0 .taken) (w .7 .ensures)))
+          (⊎-elim (λ w. rw (w .3) (sought-skip arcs f t (size .result) list x (l .loop .at) (l .loop .inv .1) (λ i q ne e. unmarked per (s .result) (rw (← m .mark .ensures, ← w .1 .ensures) (w .2 .left)) i (omega (arith, size .ensures)) (s .ensures ∙ e ∙ item-is (a .per) i (omega (arith, size .ensures))))))
+          (λ w. rw (w .1) (sought-skip arcs f t (size .result) list x (l .loop .at) (l .loop .inv .1) (λ i q ne e. ne (sym e ∙ sym (s .ensures) ∙ w .0 .left))))) (c .if1 .came)),
+    )
 
 returns : tie.Need-returns Inv-loop μ-loop
 returns c =
     let l = c .before in
-    let size = l .before .before .size in
-    let a = l .before .before .before .args in
-    placed-end (a .arcs .now) (listOf (a .per)) (l .loop .i) (l .loop .at) (size .result) (size .ensures) (l .before .known-few .ensures) (omega arith) (l .loop .inv .1)
+    let e = l .before .before .before in
+    let k = e .before .before in
+    let s = k .before .before in
+    let a = s .args in
+    let size = k .before .size in
+    let all : l .loop .k ≡ a .n = omega arith in
+    sought-end (a .arcs .now) (a .per .at) (e .ends .result) (size .result) (listOf (a .per)) (size .ensures) (item-is (a .per)) (e .ends .ensures) (take (a .n) (a .near .now)) (l .loop .at) (k .known-few .ensures) (s .pre .1 .0) (s .pre .1 .1) (rw all at (l .loop .inv .1))
 
 pub arcs-listed-spec : {M : Type 1} → statement M
 arcs-listed-spec =
@@ -83,14 +106,17 @@ arcs-listed-spec =
     μ-loop
     size-requires
     known-few-requires
+    ends-requires
+    mark-requires
     loop-holds
-    item-requires
-    place-after-requires
-    item-requires-2
-    arc-listed-requires
-    mul-at
-    array-write-at
-    add-i
+    mul-x
+    element-copy-out-x
+    cell6-requires
+    wide-requires
+    array-read-if2
+    cell6-requires-2
+    note-listed-requires
+    add-k
     loop-less
     loop-again
     returns)

@@ -1,8 +1,7 @@
 -- `pairs::near::lesser` meets its contract: a law of Lookup for each way. Assumes nothing.
-use native.Mathlib.Omega.{arith}
 use mathlib.Core.Path.{sym, _∙_}
 use borrow.Author.Tests.{eq-eqb, ne-eqb}
-use Rattle.pairs.proofs.Lookup.{least-other, least-kept, least-here}
+use Rattle.pairs.proofs.Lookup.{least-other, least-lower}
 use borrow.Author.Needs.{needs}
 use Rattle.pairs.proofs.near.lesser.Statement.{statement}
 use Rattle.pairs.proofs.near.lesser.Tie as tie
@@ -24,28 +23,17 @@ returns-2 c =
     let is = sym (c .before .before .before .cell6 .ensures) ∙ c .before .before .if1 .left in
     λ list h. least-other (a .arcs .now) (a .a) (a .b) list (a .m) (a .x) h (rw (eq-eqb _ _ is, ne-eqb _ _ (λ e. c .if2 .taken (c .before .cell62 .ensures ∙ e))))
 
+lower-requires : tie.Need-lower-requires
+lower-requires c κs = search needs
+
 returns-3 : tie.Need-returns-3
 returns-3 c =
     let f = c .before .before .before .before .cell6 in
     let t = c .before .before .cell62 in
     let g = c .before .before .before .before .before in
     let a = g .args in
-    λ list h. least-here (a .arcs .now) (a .a) (a .b) list (a .m) (a .x) h (f .result) (t .result) (g .pre) (f .ensures) (t .ensures) (c .before .before .before .if1 .left) (c .before .if2 .left) (λ nz. absurd (nz (c .if3 .taken)))
-
-returns-4 : tie.Need-returns-4
-returns-4 c =
-    let f = c .before .before .before .before .before .cell6 in
-    let t = c .before .before .before .cell62 in
-    let g = c .before .before .before .before .before .before in
-    let a = g .args in
-    λ list h. least-here (a .arcs .now) (a .a) (a .b) list (a .m) (a .x) h (f .result) (t .result) (g .pre) (f .ensures) (t .ensures) (c .before .before .before .before .if1 .left) (c .before .before .if2 .left) (λ nz. omega arith)
-
-returns-5 : tie.Need-returns-5
-returns-5 c =
-    let a = c .before .before .before .before .before .before .args in
-    λ list h. least-kept (a .arcs .now) (a .a) (a .b) list (a .m) (a .x) h (c .before .if3 .left) (c .if4 .left)
+    λ list h. rw (c .lower .ensures) (least-lower (a .arcs .now) (a .a) (a .b) list (a .m) (a .x) h (f .result) (t .result) (g .pre) (f .ensures) (t .ensures) (c .before .before .before .if1 .left) (c .before .if2 .left))
 
 pub lesser-spec : {M : Type 1} → statement M
 lesser-spec =
-    tie.close
-    (tie.spec cell6-requires returns cell6-requires-2 returns-2 returns-3 returns-4 returns-5)
+    tie.close (tie.spec cell6-requires returns cell6-requires-2 returns-2 lower-requires returns-3)

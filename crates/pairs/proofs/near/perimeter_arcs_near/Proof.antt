@@ -1,7 +1,4 @@
 -- `pairs::near::perimeter_arcs_near` meets its contract: the list tells, or a pass does; laws of Lookup. Assumes nothing.
-use Prim.Native.Nat.{_≤_}
-use native.Mathlib.Nat.{mul-le-mul-right}
-use native.Mathlib.Omega.{arith}
 use lib.ListN.{getD, take}
 use Rattle.rules.specs.Mesh.{listOf}
 use Rattle.pairs.proofs.Lookup.{all-from}
@@ -9,31 +6,18 @@ use borrow.Author.Needs.{needs}
 use Rattle.pairs.proofs.near.perimeter_arcs_near.Statement.{statement}
 use Rattle.pairs.proofs.near.perimeter_arcs_near.Tie as tie
 
-known-few-requires : tie.Need-known-few-requires
-known-few-requires c κs = search needs
-
 tells-requires : tie.Need-tells-requires
 tells-requires c κs = search needs
 
 all-marked-requires : tie.Need-all-marked-requires
 all-marked-requires c κs = search needs
 
-size-requires : tie.Need-size-requires
-size-requires c κs = search needs
-
-mul-if3 : tie.Need-mul-if3
-mul-if3 c =
-    let t = c .before .before .before .before .before .tells .ensures (c .before .before .before .before .if1 .taken) in
-    let a = c .before .before .before .before .before .before .before .args in
-    let few : c .before .size .result ≤ 64 = omega (arith, c .before .size .ensures, c .before .before .before .before .before .before .known-few .ensures) in
-    omega (arith, t .few, mul-le-mul-right (a .by .len) few)
-
 arcs-listed-requires : tie.Need-arcs-listed-requires
 arcs-listed-requires c κs =
-    let s = c .before .before .before .before .before .before .before .before in
+    let s = c .before .before .before .before in
     let a = s .args in
-    let t = c .before .before .before .before .before .before .tells .ensures (c .before .before .before .before .before .if1 .taken) in
-    let m = c .before .before .before .before .all-marked .ensures (c .before .before .before .if2 .taken) in
+    let t = c .before .before .before .tells .ensures (c .before .before .if1 .taken) in
+    let m = c .before .all-marked .ensures (c .if2 .taken) in
     let per = listOf (a .per) in
     let listing = s .pre (t .some) (t .within) (t .free) in
     (t .few, (t .fits, λ i q. all-from (a .arcs .now) (a .seen .now) (take (a .by .len) (a .near .now)) (a .by .spare) (getD per i 0) listing (m i q)))
@@ -51,11 +35,8 @@ pub perimeter-arcs-near-spec : {M : Type 1} → statement M
 perimeter-arcs-near-spec =
     tie.close
     (tie.spec
-    known-few-requires
     tells-requires
     all-marked-requires
-    size-requires
-    mul-if3
     arcs-listed-requires
     returns
     perimeter-arcs-requires
