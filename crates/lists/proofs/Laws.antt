@@ -25,6 +25,11 @@ pub list-size : (l : Links) (n : ℕ) → length (l .at) ≡ 64 → n ≡ min (l
 unfolding listOf
 list-size l n h e = omega (arith, length-take (l .len) (l .at))
 
+-- its places as far as it has
+pub list-taken : (l : Links) (n : ℕ) → n ≡ length (listOf l) → take n (l .at) ≡ listOf l
+unfolding listOf
+list-taken l n e = sym (take-take n (l .len) (l .at) (omega (arith, length-take (l .len) (l .at)))) ∙ take-all n (take (l .len) (l .at)) (omega arith)
+
 -- ---- what stands at a place
 
 pub item-in : (l : Links) (i : ℕ) → i < l .len → getD (listOf l) i 0 ≡ getD (l .at) i 0

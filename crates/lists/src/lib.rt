@@ -8,7 +8,7 @@ use tables::rows;
 ghost use mathlib.Core.Path.{_≡_};
 ghost use mathlib.Core.List.{map};
 ghost use Prim.Native.Nat.{_<_, _≤_, _+_, min};
-ghost use lib.ListN.{length, getD, drop};
+ghost use lib.ListN.{length, getD, take, drop};
 ghost use Rattle.rules.specs.Table.{has, distinct, after};
 ghost use Rattle.rules.specs.Mesh.{linksOf, listOf, findKey};
 ghost use Rattle.rules.specs.Insert.{malformed};
@@ -89,23 +89,25 @@ pub fn vertices_by_keys(vertices: &[VertexRow], keys: Links) -> Links
 {
     let n = size(keys);
     known_few(keys);
+    let from = keys.at;
     let mut at = [0u32; RING];
     let mut i: usize = 0;
     while i < n {
-        at[i] = rows::find_key2(vertices, item(keys, i));
+        at[i] = rows::find_key2(vertices, from[i]);
         i += 1;
     }
     Links { at, len: n }
 }
 
-// Whether x stands in the list from place i on.
-pub fn has_from(list: Links, i: usize, x: u32) -> bool
-    ensures { λ r. ⌜ r ≡ has (drop i (listOf list)) x ⌝ }
+// Whether x stands in the first n places from place i on.
+pub fn stands_from(at: &[u32; RING], n: usize, i: usize, x: u32) -> bool
+    requires { ⌜ n ≤ 64 ⌝ }
+    ensures { λ r. ⌜ r ≡ has (drop i (take n (now (at .entry)))) x ⌝ }
 {
-    let n = size(list);
+    known_places(*at);
     let mut j = i;
     while j < n {
-        if x == item(list, j) {
+        if x == at[j] {
             return true;
         }
         j += 1;
@@ -113,14 +115,27 @@ pub fn has_from(list: Links, i: usize, x: u32) -> bool
     false
 }
 
+// Whether x stands in the list from place i on.
+pub fn has_from(list: Links, i: usize, x: u32) -> bool
+    ensures { λ r. ⌜ r ≡ has (drop i (listOf list)) x ⌝ }
+{
+    let n = size(list);
+    known_few(list);
+    let at = list.at;
+    stands_from(&at, n, i, x)
+}
+
 // Whether the list has no element twice.
 pub fn all_differ(list: Links) -> bool
     ensures { λ r. ⌜ r ≡ distinct (listOf list) ⌝ }
 {
     let n = size(list);
+    known_few(list);
+    let at = list.at;
     let mut i: usize = 0;
     while i < n {
-        if has_from(list, i + 1, item(list, i)) {
+        let x = at[i];
+        if stands_from(&at, n, i + 1, x) {
             return false;
         }
         i += 1;

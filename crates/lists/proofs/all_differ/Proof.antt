@@ -4,40 +4,51 @@ use Rattle.lists.proofs.all_differ.Statement.{statement}
 use Rattle.lists.proofs.all_differ.Tie as tie
 use Prim.Native.Nat.{_+_, _-_}
 use native.Mathlib.Omega.{arith}
-use mathlib.Core.Path.{_≡_, refl, sym, _∙_}
+use mathlib.Core.Path.{_≡_, refl, ap, sym, _∙_}
 use mathlib.Core.Bool.{true, false}
-use lib.ListN.{getD, drop}
+use lib.ListN.{length, getD, take, drop}
+use lib.Seq.{getD-take}
 use Rattle.rules.specs.Table.{has, distinct}
 use Rattle.rules.specs.Mesh.{listOf}
-use Rattle.lists.proofs.Laws.{twice-here, twice-next, twice-end}
+use Rattle.lists.proofs.Laws.{list-taken, twice-here, twice-next, twice-end}
 
 abbrev Inv-loop : tie.InvT-loop
-Inv-loop list n i₀ i = distinct (listOf list) ≡ distinct (drop i (listOf list))
+Inv-loop n at i₀ i = distinct (take n at) ≡ distinct (drop i (take n at))
 
 abbrev μ-loop : tie.MeasureT-loop
-μ-loop list n i₀ i = n - i
+μ-loop n at i₀ i = n - i
 
 size-requires : tie.Need-size-requires Inv-loop μ-loop
 size-requires c κs = search needs
 
+known-few-requires : tie.Need-known-few-requires Inv-loop μ-loop
+known-few-requires c κs = search needs
+
 loop-holds : tie.Need-loop-holds Inv-loop μ-loop
 loop-holds c = refl
 
-add-has-from : tie.Need-add-has-from Inv-loop μ-loop
-add-has-from c = search needs
+mul-x : tie.Need-mul-x Inv-loop μ-loop
+mul-x c = search needs
 
-item-requires : tie.Need-item-requires Inv-loop μ-loop
-item-requires c κs = search needs
+array-read-x : tie.Need-array-read-x Inv-loop μ-loop
+array-read-x c = search needs
 
-has-from-requires : tie.Need-has-from-requires Inv-loop μ-loop
-has-from-requires c κs = search needs
+add-stands-from : tie.Need-add-stands-from Inv-loop μ-loop
+add-stands-from c = search needs
+
+stands-from-requires : tie.Need-stands-from-requires Inv-loop μ-loop
+stands-from-requires c κs = search needs
 
 returns : tie.Need-returns Inv-loop μ-loop
 returns c =
     let l = c .before .before .before .before in
-    let a = c .before .before .before .before .before .before .args in
-    let found : has (drop (l .loop .i + 1) (listOf (a .list))) (getD (listOf (a .list)) (l .loop .i) 0) ≡ true = rw (c .before .before .item .ensures) at (sym (c .before .has-from .ensures) ∙ c .if1 .taken) in
-    sym (l .loop .inv ∙ twice-here (listOf (a .list)) (l .loop .i) (omega (arith, c .before .before .before .before .before .size .ensures)) found)
+    let n = l .before .before .before .size in
+    let a = l .before .before .before .before .args in
+    let xs = take (n .result) (a .list .at) in
+    let all : xs ≡ listOf (a .list) = list-taken (a .list) (n .result) (n .ensures) in
+    let here : getD xs (l .loop .i) 0 ≡ getD (a .list .at) (l .loop .i) 0 = getD-take (n .result) (a .list .at) (l .loop .i) 0 (search needs) in
+    let found : has (drop (l .loop .i + 1) xs) (getD xs (l .loop .i) 0) ≡ true = rw here (sym (c .before .stands-from .ensures) ∙ c .if1 .taken) in
+    sym (ap distinct (sym all) ∙ l .loop .inv ∙ twice-here xs (l .loop .i) (omega (arith, ap length all, n .ensures)) found)
 
 add-i : tie.Need-add-i Inv-loop μ-loop
 add-i c = search needs
@@ -48,15 +59,22 @@ loop-less c = search needs
 loop-again : tie.Need-loop-again Inv-loop μ-loop
 loop-again c =
     let l = c .before .before .before .before in
-    let a = c .before .before .before .before .before .before .args in
-    let none : has (drop (l .loop .i + 1) (listOf (a .list))) (getD (listOf (a .list)) (l .loop .i) 0) ≡ false = rw (c .before .before .item .ensures) at (sym (c .before .has-from .ensures) ∙ c .if1 .left) in
-    l .loop .inv ∙ twice-next (listOf (a .list)) (l .loop .i) (omega (arith, c .before .before .before .before .before .size .ensures)) none
+    let n = l .before .before .before .size in
+    let a = l .before .before .before .before .args in
+    let xs = take (n .result) (a .list .at) in
+    let all : xs ≡ listOf (a .list) = list-taken (a .list) (n .result) (n .ensures) in
+    let here : getD xs (l .loop .i) 0 ≡ getD (a .list .at) (l .loop .i) 0 = getD-take (n .result) (a .list .at) (l .loop .i) 0 (search needs) in
+    let none : has (drop (l .loop .i + 1) xs) (getD xs (l .loop .i) 0) ≡ false = rw here (sym (c .before .stands-from .ensures) ∙ c .if1 .left) in
+    l .loop .inv ∙ twice-next xs (l .loop .i) (omega (arith, ap length all, n .ensures)) none
 
 returns-2 : tie.Need-returns-2 Inv-loop μ-loop
 returns-2 c =
     let l = c .before in
-    let a = c .before .before .before .args in
-    sym (l .loop .inv ∙ twice-end (listOf (a .list)) (l .loop .i) (omega (arith, c .before .before .size .ensures)))
+    let n = l .before .before .before .size in
+    let a = l .before .before .before .before .args in
+    let xs = take (n .result) (a .list .at) in
+    let all : xs ≡ listOf (a .list) = list-taken (a .list) (n .result) (n .ensures) in
+    sym (ap distinct (sym all) ∙ l .loop .inv ∙ twice-end xs (l .loop .i) (omega (arith, ap length all, n .ensures)))
 
 pub all-differ-spec : {M : Type 1} → statement M
 all-differ-spec =
@@ -65,10 +83,12 @@ all-differ-spec =
     Inv-loop
     μ-loop
     size-requires
+    known-few-requires
     loop-holds
-    add-has-from
-    item-requires
-    has-from-requires
+    mul-x
+    array-read-x
+    add-stands-from
+    stands-from-requires
     returns
     add-i
     loop-less

@@ -4,17 +4,18 @@ use Rattle.lists.proofs.vertices_by_keys.Statement.{statement}
 use Rattle.lists.proofs.vertices_by_keys.Tie as tie
 use Prim.Native.Nat.{_-_, _≤_}
 use native.Mathlib.Omega.{arith}
-use mathlib.Core.Path.{_≡_, refl, ap, _∙_}
-use lib.ListN.{getD}
+use mathlib.Core.Path.{_≡_, refl, ap}
+use lib.ListN.{length, getD, take}
+use lib.Seq.{getD-take}
 use Rattle.rules.specs.Mesh.{placesOf, listOf, findKey}
 use Rattle.walks.proofs.Listing.{Made, made-more}
-use Rattle.lists.proofs.Laws.{made-list}
+use Rattle.lists.proofs.Laws.{list-taken, made-list}
 
 abbrev Inv-loop : tie.InvT-loop
-Inv-loop vertices keys n at₀ i₀ at i = (i ≤ n) × Made (findKey vertices) (listOf keys) at i
+Inv-loop vertices n from at₀ i₀ at i = (i ≤ n) × Made (findKey vertices) (take n from) at i
 
 abbrev μ-loop : tie.MeasureT-loop
-μ-loop vertices keys n at₀ i₀ at i = n - i
+μ-loop vertices n from at₀ i₀ at i = n - i
 
 size-requires : tie.Need-size-requires Inv-loop μ-loop
 size-requires c κs = search needs
@@ -26,8 +27,11 @@ loop-holds : tie.Need-loop-holds Inv-loop μ-loop
 unfolding placesOf
 loop-holds c = (search needs, refl)
 
-item-requires : tie.Need-item-requires Inv-loop μ-loop
-item-requires c κs = search needs
+mul-find-key2 : tie.Need-mul-find-key2 Inv-loop μ-loop
+mul-find-key2 c = search needs
+
+array-read-find-key2 : tie.Need-array-read-find-key2 Inv-loop μ-loop
+array-read-find-key2 c = search needs
 
 find-key2-requires : tie.Need-find-key2-requires Inv-loop μ-loop
 find-key2-requires c κs = search needs
@@ -46,19 +50,23 @@ loop-less c = search needs
 
 loop-again : tie.Need-loop-again Inv-loop μ-loop
 loop-again c =
-    let a = c .before .before .before .before .before .before .args in
-    let l = c .before .before .before in
-    let size = c .before .before .before .before .before .size .ensures in
-    let few = c .before .before .before .before .known-few .ensures in
-    let found : c .find-key2 .result ≡ findKey (a .vertices .now) (getD (listOf (a .keys)) (l .loop .i) 0) = c .find-key2 .ensures ∙ ap (findKey (a .vertices .now)) (c .before .item .ensures) in
-    (search needs, made-more (findKey (a .vertices .now)) (listOf (a .keys)) (l .loop .at) (l .loop .i) (c .find-key2 .result) (omega (arith, size)) few found (l .loop .inv .1))
+    let l = c .before .before in
+    let n = l .before .before .before .size in
+    let a = l .before .before .before .before .args in
+    let xs = take (n .result) (a .keys .at) in
+    let all : xs ≡ listOf (a .keys) = list-taken (a .keys) (n .result) (n .ensures) in
+    let here : getD xs (l .loop .i) 0 ≡ getD (a .keys .at) (l .loop .i) 0 = getD-take (n .result) (a .keys .at) (l .loop .i) 0 (search needs) in
+    let found : c .find-key2 .result ≡ findKey (a .vertices .now) (getD xs (l .loop .i) 0) = rw here (c .find-key2 .ensures) in
+    (search needs, made-more (findKey (a .vertices .now)) xs (l .loop .at) (l .loop .i) (c .find-key2 .result) (omega (arith, ap length all, n .ensures)) (omega (arith, ap length all, l .before .before .known-few .ensures)) found (l .loop .inv .1))
 
 returns : tie.Need-returns Inv-loop μ-loop
 returns c =
-    let a = c .before .before .before .before .args in
     let l = c .before in
-    let all : l .loop .i ≡ c .before .before .before .size .result = omega (arith, c .before .before .before .size .ensures) in
-    made-list (findKey (a .vertices .now)) (listOf (a .keys)) (l .loop .at) (c .before .before .before .size .result) (c .before .before .before .size .ensures) (rw all at (l .loop .inv .1))
+    let n = l .before .before .before .size in
+    let a = l .before .before .before .before .args in
+    let all : take (n .result) (a .keys .at) ≡ listOf (a .keys) = list-taken (a .keys) (n .result) (n .ensures) in
+    let end : l .loop .i ≡ n .result = omega (arith, n .ensures) in
+    made-list (findKey (a .vertices .now)) (listOf (a .keys)) (l .loop .at) (n .result) (n .ensures) (rw (end, all) at (l .loop .inv .1))
 
 pub vertices-by-keys-spec : {M : Type 1} → statement M
 vertices-by-keys-spec =
@@ -69,7 +77,8 @@ vertices-by-keys-spec =
     size-requires
     known-few-requires
     loop-holds
-    item-requires
+    mul-find-key2
+    array-read-find-key2
     find-key2-requires
     mul-at
     array-write-at
