@@ -36,10 +36,11 @@ pub fn leading_arcs(vertices: &[VertexRow], per: Links) -> Links
 {
     let n = lists::size(per);
     lists::known_few(per);
+    let from = per.at;
     let mut at = [0u32; RING];
     let mut i: usize = 0;
     while i < n {
-        at[i] = rows::cell2(vertices, lists::item(per, i), 1);
+        at[i] = rows::cell2(vertices, from[i], 1);
         i += 1;
     }
     Links { at, len: n }
@@ -134,10 +135,12 @@ pub fn interior(arcs: &mut [ArcRow], xs: Links, face: u32)
     ensures { λ _. ⌜ now (arcs .exit) ≡ interiorBy (listOf xs) face (now (arcs .entry)) ⌝ }
 {
     let n = lists::size(xs);
+    lists::known_few(xs);
+    let at = xs.at;
     let mut i: usize = 0;
     while i < n {
-        let x = lists::item(xs, i);
-        links::connect(arcs, x, lists::item(xs, lists::place_after(n, i)));
+        let x = at[i];
+        links::connect(arcs, x, at[lists::place_after(n, i)]);
         links::set_face(arcs, x, face);
         i += 1;
     }

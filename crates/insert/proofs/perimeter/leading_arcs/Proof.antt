@@ -1,20 +1,21 @@
-use Prim.Native.Nat.{ℕ, _-_, _≤_}
+use Prim.Native.Nat.{_-_, _≤_}
 use native.Mathlib.Omega.{arith}
-use mathlib.Core.Path.{_≡_, refl, ap, _∙_}
-use lib.ListN.{getD}
+use mathlib.Core.Path.{_≡_, refl, ap}
+use lib.ListN.{length, getD, take}
+use lib.Seq.{getD-take}
 use Rattle.rules.specs.Table.{cell}
 use Rattle.rules.specs.Mesh.{placesOf, listOf}
 use Rattle.walks.proofs.Listing.{Made, made-more}
-use Rattle.lists.proofs.Laws.{made-list}
+use Rattle.lists.proofs.Laws.{list-taken, made-list}
 use borrow.Author.Needs.{needs}
 use Rattle.insert.proofs.perimeter.leading_arcs.Statement.{statement}
 use Rattle.insert.proofs.perimeter.leading_arcs.Tie as tie
 
 abbrev Inv-loop : tie.InvT-loop
-Inv-loop vertices per n at₀ i₀ at i = (i ≤ n) × Made (λ v. cell vertices v 1) (listOf per) at i
+Inv-loop vertices n from at₀ i₀ at i = (i ≤ n) × Made (λ v. cell vertices v 1) (take n from) at i
 
 abbrev μ-loop : tie.MeasureT-loop
-μ-loop vertices per n at₀ i₀ at i = n - i
+μ-loop vertices n from at₀ i₀ at i = n - i
 
 size-requires : tie.Need-size-requires Inv-loop μ-loop
 size-requires c κs = search needs
@@ -26,8 +27,11 @@ loop-holds : tie.Need-loop-holds Inv-loop μ-loop
 unfolding placesOf
 loop-holds c = (search needs, refl)
 
-item-requires : tie.Need-item-requires Inv-loop μ-loop
-item-requires c κs = search needs
+mul-cell2 : tie.Need-mul-cell2 Inv-loop μ-loop
+mul-cell2 c = search needs
+
+array-read-cell2 : tie.Need-array-read-cell2 Inv-loop μ-loop
+array-read-cell2 c = search needs
 
 cell2-requires : tie.Need-cell2-requires Inv-loop μ-loop
 cell2-requires c κs = search needs
@@ -46,20 +50,23 @@ loop-less c = search needs
 
 loop-again : tie.Need-loop-again Inv-loop μ-loop
 loop-again c =
-    let l = c .before .before .before in
-    let a = c .before .before .before .before .before .before .args in
-    let en = c .before .before .before .before .before .size .ensures in
-    let few = c .before .before .before .before .known-few .ensures in
-    let found : c .cell2 .result ≡ cell (a .vertices .now) (getD (listOf (a .per)) (l .loop .i) 0) 1 = c .cell2 .ensures ∙ ap (λ (v : ℕ). cell (a .vertices .now) v 1) (c .before .item .ensures) in
-    (search needs, made-more (λ v. cell (a .vertices .now) v 1) (listOf (a .per)) (l .loop .at) (l .loop .i) (c .cell2 .result) (omega (arith, en)) few found (l .loop .inv .1))
+    let l = c .before .before in
+    let n = l .before .before .before .size in
+    let a = l .before .before .before .before .args in
+    let xs = take (n .result) (a .per .at) in
+    let all : xs ≡ listOf (a .per) = list-taken (a .per) (n .result) (n .ensures) in
+    let here : getD xs (l .loop .i) 0 ≡ getD (a .per .at) (l .loop .i) 0 = getD-take (n .result) (a .per .at) (l .loop .i) 0 (search needs) in
+    let found : c .cell2 .result ≡ cell (a .vertices .now) (getD xs (l .loop .i) 0) 1 = rw here (c .cell2 .ensures) in
+    (search needs, made-more (λ v. cell (a .vertices .now) v 1) xs (l .loop .at) (l .loop .i) (c .cell2 .result) (omega (arith, ap length all, n .ensures)) (omega (arith, ap length all, l .before .before .known-few .ensures)) found (l .loop .inv .1))
 
 returns : tie.Need-returns Inv-loop μ-loop
 returns c =
     let l = c .before in
-    let u = c .before .before .before in
-    let a = c .before .before .before .before .args in
-    let all : l .loop .i ≡ u .size .result = omega arith in
-    made-list (λ v. cell (a .vertices .now) v 1) (listOf (a .per)) (l .loop .at) (u .size .result) (u .size .ensures) (rw all at (l .loop .inv .1))
+    let n = l .before .before .before .size in
+    let a = l .before .before .before .before .args in
+    let all : take (n .result) (a .per .at) ≡ listOf (a .per) = list-taken (a .per) (n .result) (n .ensures) in
+    let end : l .loop .i ≡ n .result = omega arith in
+    made-list (λ v. cell (a .vertices .now) v 1) (listOf (a .per)) (l .loop .at) (n .result) (n .ensures) (rw (end, all) at (l .loop .inv .1))
 
 pub leading-arcs-spec : {M : Type 1} → statement M
 leading-arcs-spec =
@@ -70,7 +77,8 @@ leading-arcs-spec =
     size-requires
     known-few-requires
     loop-holds
-    item-requires
+    mul-cell2
+    array-read-cell2
     cell2-requires
     mul-at
     array-write-at
