@@ -38,7 +38,8 @@ fn place_again(row: [u32; RING]) -> usize
 {
     let mut k: usize = 0;
     while k < RING {
-        if lists::has_from(Links { at: row, len: k }, 0, row[k]) {
+        let x = row[k];
+        if lists::stands_from(&row, k, 0, x) {
             return k;
         }
         k += 1;
@@ -99,10 +100,11 @@ pub fn take_lists(
 {
     let n = lists::size(leads);
     lists::known_few(leads);
+    let from = leads.at;
     let mut longest: usize = 0;
     let mut i: usize = 0;
     while i < n {
-        let walk = vertexlists::out_list(arcs, edges, lists::item(leads, i));
+        let walk = vertexlists::out_list(arcs, edges, from[i]);
         let most = reach(walk);
         if most > RING {
             return false;
@@ -189,10 +191,12 @@ pub fn exterior(arcs: &mut [ArcRow], edges: &[EdgeRow], rows: &[[u32; RING]], xs
     ensures { λ _. ⌜ now (arcs .exit) ≡ exteriorBy (now (edges .entry)) (now (rows .entry)) (listOf xs) (now (arcs .entry)) ⌝ }
 {
     let n = lists::size(xs);
+    lists::known_few(xs);
+    let at = xs.at;
     let mut i: usize = 0;
     while i < n {
         let j = lists::place_after(n, i);
-        exterior_at(arcs, edges, rows, i, j, lists::item(xs, i));
+        exterior_at(arcs, edges, rows, i, j, at[i]);
         i += 1;
     }
 }

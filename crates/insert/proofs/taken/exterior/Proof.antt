@@ -1,10 +1,12 @@
 -- `insert::taken::exterior` meets its contract. The loop keeps the exterior of the pairs passed by. Assumes nothing.
 use Prim.Native.Nat.{_-_, _≤_, _<_}
 use native.Mathlib.Omega.{arith}
-use mathlib.Core.Path.{_≡_, refl, _∙_}
-use lib.ListN.{length}
+use mathlib.Core.Path.{_≡_, refl, ap, sym, _∙_}
+use lib.ListN.{length, getD, take}
+use lib.Seq.{getD-take}
 use Rattle.rules.specs.Table.{upTo}
 use Rattle.rules.specs.Mesh.{listOf}
+use Rattle.lists.proofs.Laws.{list-taken}
 use Rattle.insert.specs.Perimeter.{exteriorBy}
 use Rattle.insert.proofs.Rows.{exteriorRow, row-more, after-on}
 use borrow.Author.Needs.{needs}
@@ -12,13 +14,16 @@ use Rattle.insert.proofs.taken.exterior.Statement.{statement}
 use Rattle.insert.proofs.taken.exterior.Tie as tie
 
 abbrev Inv-loop : tie.InvT-loop
-Inv-loop arcs₀ edges rows xs n i₀ arcs i = (i ≤ n) × ((length arcs ≡ length arcs₀) × (arcs ≡ upTo (exteriorRow edges rows (listOf xs)) i arcs₀))
+Inv-loop arcs₀ edges rows n at i₀ arcs i = (i ≤ n) × ((length arcs ≡ length arcs₀) × (arcs ≡ upTo (exteriorRow edges rows (take n at)) i arcs₀))
 
 abbrev μ-loop : tie.MeasureT-loop
-μ-loop arcs₀ edges rows xs n i₀ arcs i = n - i
+μ-loop arcs₀ edges rows n at i₀ arcs i = n - i
 
 size-requires : tie.Need-size-requires Inv-loop μ-loop
 size-requires c κs = search needs
+
+known-few-requires : tie.Need-known-few-requires Inv-loop μ-loop
+known-few-requires c κs = search needs
 
 loop-holds : tie.Need-loop-holds Inv-loop μ-loop
 unfolding upTo
@@ -27,15 +32,19 @@ loop-holds c = (search needs, (refl, refl))
 place-after-requires : tie.Need-place-after-requires Inv-loop μ-loop
 place-after-requires c κs = search needs
 
-item-requires : tie.Need-item-requires Inv-loop μ-loop
-item-requires c κs = search needs
+mul-exterior-at : tie.Need-mul-exterior-at Inv-loop μ-loop
+mul-exterior-at c = search needs
+
+array-read-exterior-at : tie.Need-array-read-exterior-at Inv-loop μ-loop
+array-read-exterior-at c = search needs
 
 exterior-at-requires : tie.Need-exterior-at-requires Inv-loop μ-loop
 exterior-at-requires c κs =
-    let en = c .before .before .before .before .before .size in
-    let l : c .before .before .before .before .loop .i < c .before .before .before .before .before .size .result = c .before .before .before .loop-test .taken in
-    let j = c .before .before .place-after in
-    (omega (arith, l, en .ensures, c .before .before .before .before .before .before .pre), omega (arith, j .ensures, after-on (c .before .before .before .before .before .size .result) (c .before .before .before .before .loop .i) l, en .ensures, c .before .before .before .before .before .before .pre))
+    let l = c .before .before .before in
+    let n = l .before .before .before .size in
+    let s = l .before .before .before .before in
+    let on : l .loop .i < n .result = c .before .before .loop-test .taken in
+    (omega (arith, n .ensures, s .pre), omega (arith, c .before .place-after .ensures, after-on (n .result) (l .loop .i) on, n .ensures, s .pre))
 
 add-i : tie.Need-add-i Inv-loop μ-loop
 add-i c = search needs
@@ -45,10 +54,14 @@ loop-less c = search needs
 
 loop-again : tie.Need-loop-again Inv-loop μ-loop
 loop-again c =
-    let l = c .before .before .before .before .before .before in
-    let a = c .before .before .before .before .before .before .before .before .args in
-    let en = c .before .before .before .before .before .before .before .size in
-    (search needs, (c .before .exterior-at .kept .0 ∙ l .loop .inv .1 .0, row-more (a .arcs .now) (a .edges .now) (a .rows .now) (listOf (a .xs)) (l .loop .i) (en .result) (c .before .before .before .before .place-after .result) (c .before .before .item .result) (en .ensures) (c .before .before .before .before .place-after .ensures) (c .before .before .item .ensures) (l .loop .inv .1 .1) (c .before .exterior-at .ensures)))
+    let l = c .before .before .before .before .before in
+    let n = l .before .before .before .size in
+    let a = l .before .before .before .before .args in
+    let j = c .before .before .before .place-after in
+    let on : l .loop .i < n .result = c .before .before .before .before .loop-test .taken in
+    let xs = take (n .result) (a .xs .at) in
+    let all : xs ≡ listOf (a .xs) = list-taken (a .xs) (n .result) (n .ensures) in
+    (search needs, (c .before .exterior-at .kept .0 ∙ l .loop .inv .1 .0, row-more (a .arcs .now) (a .edges .now) (a .rows .now) xs (l .loop .i) (n .result) (j .result) (getD (a .xs .at) (l .loop .i) 0) (n .ensures ∙ sym (ap length all)) (j .ensures) (sym (getD-take (n .result) (a .xs .at) (l .loop .i) 0 on)) (l .loop .inv .1 .1) (c .before .exterior-at .ensures)))
 
 same-length : tie.Need-same-length Inv-loop μ-loop
 same-length c = search needs
@@ -56,8 +69,12 @@ same-length c = search needs
 returns : tie.Need-returns Inv-loop μ-loop
 unfolding exteriorBy
 returns c =
-    let all : c .before .loop .i ≡ length (listOf (c .before .before .before .args .xs)) = omega (arith, c .before .before .size .ensures) in
-    rw all at (c .before .loop .inv .1 .1)
+    let l = c .before in
+    let n = l .before .before .before .size in
+    let a = l .before .before .before .before .args in
+    let all : take (n .result) (a .xs .at) ≡ listOf (a .xs) = list-taken (a .xs) (n .result) (n .ensures) in
+    let end : l .loop .i ≡ length (listOf (a .xs)) = omega (arith, n .ensures) in
+    rw (end, all) at (l .loop .inv .1 .1)
 
 pub exterior-spec : {M : Type 1} → statement M
 exterior-spec =
@@ -66,9 +83,11 @@ exterior-spec =
     Inv-loop
     μ-loop
     size-requires
+    known-few-requires
     loop-holds
     place-after-requires
-    item-requires
+    mul-exterior-at
+    array-read-exterior-at
     exterior-at-requires
     add-i
     loop-less

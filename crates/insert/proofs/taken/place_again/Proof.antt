@@ -2,7 +2,6 @@
 use Prim.Native.Nat.{_-_, _≤_}
 use native.Mathlib.Omega.{arith}
 use mathlib.Core.Path.{sym, _∙_}
-use Rattle.rules.specs.Mesh.{listOf}
 use borrow.Author.Needs.{needs}
 use Rattle.insert.proofs.taken.place_again.Statement.{statement}
 use Rattle.insert.proofs.taken.place_again.Tie as tie
@@ -16,18 +15,17 @@ abbrev μ-loop : tie.MeasureT-loop
 loop-holds : tie.Need-loop-holds Inv-loop μ-loop
 loop-holds c = search needs
 
-mul-has-from : tie.Need-mul-has-from Inv-loop μ-loop
-mul-has-from c = search needs
+mul-x : tie.Need-mul-x Inv-loop μ-loop
+mul-x c = search needs
 
-array-read-has-from : tie.Need-array-read-has-from Inv-loop μ-loop
-array-read-has-from c = search needs
+array-read-x : tie.Need-array-read-x Inv-loop μ-loop
+array-read-x c = search needs
 
-has-from-requires : tie.Need-has-from-requires Inv-loop μ-loop
-has-from-requires c κs = search needs
+stands-from-requires : tie.Need-stands-from-requires Inv-loop μ-loop
+stands-from-requires c κs = search needs
 
 returns : tie.Need-returns Inv-loop μ-loop
-unfolding listOf
-returns c = λ l. (c .before .before .loop-test .taken, sym (c .before .has-from .ensures) ∙ c .if1 .taken)
+returns c = λ l. (c .before .before .before .loop-test .taken, sym (c .before .stands-from .ensures) ∙ c .if1 .taken)
 
 add-k : tie.Need-add-k Inv-loop μ-loop
 add-k c = search needs
@@ -51,9 +49,9 @@ place-again-spec =
     Inv-loop
     μ-loop
     loop-holds
-    mul-has-from
-    array-read-has-from
-    has-from-requires
+    mul-x
+    array-read-x
+    stands-from-requires
     returns
     add-k
     loop-less

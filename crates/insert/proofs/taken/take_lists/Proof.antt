@@ -1,20 +1,22 @@
 -- `insert::taken::take_lists` meets its contract. The loop keeps the lists of the leading arcs passed by; laws of Rows. Assumes nothing.
 use Prim.Native.Nat.{ℕ, _-_, _≤_, _<_}
 use native.Mathlib.Omega.{arith}
-use mathlib.Core.Path.{_≡_, refl, ap, _∙_}
+use mathlib.Core.Path.{_≡_, refl, ap, sym, _∙_}
 use mathlib.Core.Bool.{Bool, cond}
-use lib.ListN.{length, length-set}
+use lib.ListN.{length, getD, take, length-set}
+use lib.Seq.{getD-take}
 use Rattle.rules.specs.Mesh.{listOf}
+use Rattle.lists.proofs.Laws.{list-taken}
 use Rattle.insert.proofs.Rows.{Got, got-none, got-more, got-all}
 use borrow.Author.Needs.{needs}
 use Rattle.insert.proofs.taken.take_lists.Statement.{statement}
 use Rattle.insert.proofs.taken.take_lists.Tie as tie
 
 abbrev Inv-loop : tie.InvT-loop
-Inv-loop arcs edges leads rows₀ n longest₀ i₀ rows longest i = (i ≤ n) × ((length rows ≡ length rows₀) × Got arcs edges (listOf leads) rows longest i)
+Inv-loop arcs edges rows₀ n from longest₀ i₀ rows longest i = (i ≤ n) × ((length rows ≡ length rows₀) × Got arcs edges (take n from) rows longest i)
 
 abbrev μ-loop : tie.MeasureT-loop
-μ-loop arcs edges leads rows₀ n longest₀ i₀ rows longest i = n - i
+μ-loop arcs edges rows₀ n from longest₀ i₀ rows longest i = n - i
 
 size-requires : tie.Need-size-requires Inv-loop μ-loop
 size-requires c κs = search needs
@@ -24,11 +26,14 @@ known-few-requires c κs = search needs
 
 loop-holds : tie.Need-loop-holds Inv-loop μ-loop
 loop-holds c =
-    let a = c .before .before .args in
-    (search needs, (refl, got-none (a .arcs .now) (a .edges .now) (listOf (a .leads)) (a .rows .now) 0))
+    let a = c .before .before .before .args in
+    (search needs, (refl, got-none (a .arcs .now) (a .edges .now) (take (c .before .before .size .result) (a .leads .at)) (a .rows .now) 0))
 
-item-requires : tie.Need-item-requires Inv-loop μ-loop
-item-requires c κs = search needs
+mul-out-list : tie.Need-mul-out-list Inv-loop μ-loop
+mul-out-list c = search needs
+
+array-read-out-list : tie.Need-array-read-out-list Inv-loop μ-loop
+array-read-out-list c = search needs
 
 out-list-requires : tie.Need-out-list-requires Inv-loop μ-loop
 out-list-requires c κs = search needs
@@ -46,7 +51,9 @@ mul-at : tie.Need-mul-at Inv-loop μ-loop
 mul-at c = search needs
 
 slice-set-from-at : tie.Need-slice-set-from-at Inv-loop μ-loop
-slice-set-from-at c = omega (arith, c .before .before .before .before .before .before .before .before .before .before .pre, c .before .before .before .before .before .before .before .loop .inv .1 .0, c .before .before .before .before .before .before .before .before .known-few .ensures, c .before .before .before .before .before .before .before .before .before .size .ensures, c .before .before .before .before .before .before .loop-test .taken)
+slice-set-from-at c =
+    let l = c .before .before .before .before .before .before in
+    omega (arith, l .before .before .before .before .pre, l .loop .inv .1 .0, l .before .before .known-few .ensures, l .before .before .before .size .ensures, c .before .before .before .before .before .loop-test .taken)
 
 greater-requires : tie.Need-greater-requires Inv-loop μ-loop
 greater-requires c κs = search needs
@@ -59,15 +66,17 @@ loop-less c = search needs
 
 loop-again : tie.Need-loop-again Inv-loop μ-loop
 loop-again c =
-    let l = c .before .before .before .before .before .before .before .before in
-    let s = c .before .before .before .before .before .before .before .before .before .before .before in
+    let l = c .before .before .before .before .before .before .before in
+    let s = l .before .before .before .before in
     let a = s .args in
+    let n = l .before .before .before .size in
     let w = c .before .before .before .before .before .out-list in
-    let inside : l .loop .i < length (l .loop .rows) = omega (arith, s .pre, l .loop .inv .1 .0, c .before .before .before .before .before .before .before .before .before .known-few .ensures, c .before .before .before .before .before .before .before .before .before .before .size .ensures, c .before .before .before .before .before .before .before .loop-test .taken) in (
+    let on : l .loop .i < n .result = c .before .before .before .before .before .before .loop-test .taken in
+    let inside : l .loop .i < length (l .loop .rows) = omega (arith, s .pre, l .loop .inv .1 .0, l .before .before .known-few .ensures, n .ensures) in (
       search needs,
       (
         length-set (l .loop .rows) (l .loop .i) (w .result .links .at) ∙ l .loop .inv .1 .0,
-        got-more (a .arcs .now) (a .edges .now) (listOf (a .leads)) (l .loop .rows) (l .loop .longest) (l .loop .i) (c .before .before .before .before .before .before .item .result) (w .result) (c .before .before .before .before .reach .result) (c .greater .result) inside (c .before .before .before .before .before .before .item .ensures) (w .ensures) (c .before .before .before .before .reach .ensures (omega (arith, c .before .before .before .if1 .left))) (c .greater .ensures .0) (c .greater .ensures .1) (l .loop .inv .1 .1),
+        got-more (a .arcs .now) (a .edges .now) (take (n .result) (a .leads .at)) (l .loop .rows) (l .loop .longest) (l .loop .i) (getD (a .leads .at) (l .loop .i) 0) (w .result) (c .before .before .before .before .reach .result) (c .greater .result) inside (sym (getD-take (n .result) (a .leads .at) (l .loop .i) 0 on)) (w .ensures) (c .before .before .before .before .reach .ensures (omega (arith, c .before .before .before .if1 .left))) (c .greater .ensures .0) (c .greater .ensures .1) (l .loop .inv .1 .1),
       ),
     )
 
@@ -81,10 +90,11 @@ returns-2 : tie.Need-returns-2 Inv-loop μ-loop
 returns-2 c =
     λ whole.
     let l = c .before .before in
-    let a = c .before .before .before .before .before .args in
-    let n = c .before .before .before .before .size in
+    let n = l .before .before .before .size in
+    let a = l .before .before .before .before .args in
+    let all : take (n .result) (a .leads .at) ≡ listOf (a .leads) = list-taken (a .leads) (n .result) (n .ensures) in
     let end : l .loop .i ≡ length (listOf (a .leads)) = omega (arith, n .ensures, c .before .loop-test .left, l .loop .inv .0) in
-    got-all (a .arcs .now) (a .edges .now) (listOf (a .leads)) (l .loop .rows) (l .loop .longest) (l .loop .i) end (c .used-at-least .ensures whole) (l .loop .inv .1 .1)
+    got-all (a .arcs .now) (a .edges .now) (listOf (a .leads)) (l .loop .rows) (l .loop .longest) (l .loop .i) end (c .used-at-least .ensures whole) (rw all at (l .loop .inv .1 .1))
 
 pub take-lists-spec : {M : Type 1} → statement M
 take-lists-spec =
@@ -95,7 +105,8 @@ take-lists-spec =
     size-requires
     known-few-requires
     loop-holds
-    item-requires
+    mul-out-list
+    array-read-out-list
     out-list-requires
     reach-requires
     same-length
