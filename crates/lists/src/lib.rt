@@ -101,12 +101,12 @@ pub fn vertices_by_keys(vertices: &[VertexRow], keys: Links) -> Links
 
 // Whether x stands in the first n places from place i on.
 pub fn stands_from(at: &[u32; RING], n: usize, i: usize, x: u32) -> bool
-    requires { ⌜ n ≤ 64 ⌝ }
     ensures { λ r. ⌜ r ≡ has (drop i (take n (now (at .entry)))) x ⌝ }
 {
     known_places(*at);
+    let end = in_use(n);
     let mut j = i;
-    while j < n {
+    while j < end {
         if x == at[j] {
             return true;
         }
@@ -119,10 +119,8 @@ pub fn stands_from(at: &[u32; RING], n: usize, i: usize, x: u32) -> bool
 pub fn has_from(list: Links, i: usize, x: u32) -> bool
     ensures { λ r. ⌜ r ≡ has (drop i (listOf list)) x ⌝ }
 {
-    let n = size(list);
-    known_few(list);
     let at = list.at;
-    stands_from(&at, n, i, x)
+    stands_from(&at, list.len, i, x)
 }
 
 // Whether the list has no element twice.

@@ -11,13 +11,16 @@ use Rattle.rules.specs.Table.{has}
 use Rattle.lists.proofs.Laws.{has-here, has-next, has-end}
 
 abbrev Inv-loop : tie.InvT-loop
-Inv-loop at n i x j₀ j = has (drop i (take n at)) x ≡ has (drop j (take n at)) x
+Inv-loop at n i x end j₀ j = has (drop i (take n at)) x ≡ has (drop j (take n at)) x
 
 abbrev μ-loop : tie.MeasureT-loop
-μ-loop at n i x j₀ j = n - j
+μ-loop at n i x end j₀ j = end - j
 
 known-places-requires : tie.Need-known-places-requires Inv-loop μ-loop
 known-places-requires c κs = search needs
+
+in-use-requires : tie.Need-in-use-requires Inv-loop μ-loop
+in-use-requires c κs = search needs
 
 loop-holds : tie.Need-loop-holds Inv-loop μ-loop
 loop-holds c = refl
@@ -31,8 +34,8 @@ element-copy-out-if1 c = search needs
 returns : tie.Need-returns Inv-loop μ-loop
 returns c =
     let l = c .before .before .before in
-    let a = l .before .before .before .args in
-    sym (l .loop .inv ∙ has-here (take (a .n) (a .at .now)) (l .loop .j) (a .x) (omega (arith, length-take (a .n) (a .at .now))) (c .if1 .taken ∙ sym (getD-take (a .n) (a .at .now) (l .loop .j) 0 (search needs))))
+    let a = l .before .before .before .before .args in
+    sym (l .loop .inv ∙ has-here (take (a .n) (a .at .now)) (l .loop .j) (a .x) (omega (arith, length-take (a .n) (a .at .now))) (c .if1 .taken ∙ sym (getD-take (a .n) (a .at .now) (l .loop .j) 0 (omega arith))))
 
 add-j : tie.Need-add-j Inv-loop μ-loop
 add-j c = search needs
@@ -43,13 +46,13 @@ loop-less c = search needs
 loop-again : tie.Need-loop-again Inv-loop μ-loop
 loop-again c =
     let l = c .before .before .before in
-    let a = l .before .before .before .args in
-    l .loop .inv ∙ has-next (take (a .n) (a .at .now)) (l .loop .j) (a .x) (omega (arith, length-take (a .n) (a .at .now))) (λ e. c .if1 .left (e ∙ getD-take (a .n) (a .at .now) (l .loop .j) 0 (search needs)))
+    let a = l .before .before .before .before .args in
+    l .loop .inv ∙ has-next (take (a .n) (a .at .now)) (l .loop .j) (a .x) (omega (arith, length-take (a .n) (a .at .now))) (λ e. c .if1 .left (e ∙ getD-take (a .n) (a .at .now) (l .loop .j) 0 (omega arith)))
 
 returns-2 : tie.Need-returns-2 Inv-loop μ-loop
 returns-2 c =
     let l = c .before in
-    let a = l .before .before .before .args in
+    let a = l .before .before .before .before .args in
     sym (l .loop .inv ∙ has-end (take (a .n) (a .at .now)) (l .loop .j) (a .x) (omega (arith, length-take (a .n) (a .at .now))))
 
 pub stands-from-spec : {M : Type 1} → statement M
@@ -59,6 +62,7 @@ stands-from-spec =
     Inv-loop
     μ-loop
     known-places-requires
+    in-use-requires
     loop-holds
     mul-if1
     element-copy-out-if1
