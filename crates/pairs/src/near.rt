@@ -53,9 +53,11 @@ pub fn mark(seen: &mut [bool; MARKS], list: Links)
     ensures { λ _. ⌜ now (seen .exit) ≡ markedAt (now (seen .entry)) (listOf list) ⌝ }
 {
     let n = lists::size(list);
+    lists::known_few(list);
+    let at = list.at;
     let mut i: usize = 0;
     while i < n {
-        let place = rows::wide(lists::item(list, i)) % MARKS;
+        let place = rows::wide(at[i]) % MARKS;
         seen[place] = true;
         i += 1;
     }
@@ -177,9 +179,11 @@ fn all_marked(seen: &[bool; MARKS], list: Links) -> bool
     ensures { λ r. ⌜ (r ≡ true → (i : ℕ) → i < length (listOf list) → isMarked (now (seen .entry)) (getD (listOf list) i 0) ≡ true) ⌝ }
 {
     let n = lists::size(list);
+    lists::known_few(list);
+    let at = list.at;
     let mut i: usize = 0;
     while i < n {
-        if !seen[rows::wide(lists::item(list, i)) % MARKS] {
+        if !seen[rows::wide(at[i]) % MARKS] {
             return false;
         }
         i += 1;

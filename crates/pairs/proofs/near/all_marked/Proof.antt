@@ -2,31 +2,40 @@
 use Rattle.pairs.proofs.Listing.{both}
 use Prim.Native.Nat.{ℕ, _+_, _-_, _≤_, _<_}
 use native.Mathlib.Omega.{arith}
-use mathlib.Core.Path.{_≡_, sym, _∙_}
+use mathlib.Core.Path.{_≡_, ap, sym, _∙_}
 use mathlib.Core.Bool.{true}
+use mathlib.Core.List.{List}
 use lib.ListN.{length, getD}
+use lib.Seq.{getD-take}
 use borrow.Author.Count.{below-none, below-more}
 use borrow.Author.Tests.{not-true, not-false}
 use Rattle.rules.specs.Mesh.{listOf}
+use Rattle.lists.proofs.Laws.{list-taken}
 use Rattle.pairs.specs.Near.{isMarked}
 use borrow.Author.Needs.{needs}
 use Rattle.pairs.proofs.near.all_marked.Statement.{statement}
 use Rattle.pairs.proofs.near.all_marked.Tie as tie
 
 abbrev Inv-loop : tie.InvT-loop
-Inv-loop seen list n i₀ i = (i ≤ n) × ((k : ℕ) → k < i → isMarked seen (getD (listOf list) k 0) ≡ true)
+Inv-loop seen n at i₀ i = (i ≤ n) × ((k : ℕ) → k < i → isMarked seen (getD at k 0) ≡ true)
 
 abbrev μ-loop : tie.MeasureT-loop
-μ-loop seen list n i₀ i = n - i
+μ-loop seen n at i₀ i = n - i
 
 size-requires : tie.Need-size-requires Inv-loop μ-loop
 size-requires c κs = search needs
 
+known-few-requires : tie.Need-known-few-requires Inv-loop μ-loop
+known-few-requires c κs = search needs
+
 loop-holds : tie.Need-loop-holds Inv-loop μ-loop
 loop-holds c = (search needs, below-none _)
 
-item-requires : tie.Need-item-requires Inv-loop μ-loop
-item-requires c κs = search needs
+mul-wide : tie.Need-mul-wide Inv-loop μ-loop
+mul-wide c = search needs
+
+array-read-wide : tie.Need-array-read-wide Inv-loop μ-loop
+array-read-wide c = search needs
 
 wide-requires : tie.Need-wide-requires Inv-loop μ-loop
 wide-requires c κs = search needs
@@ -45,15 +54,17 @@ loop-less c = search needs
 
 loop-again : tie.Need-loop-again Inv-loop μ-loop
 loop-again c =
-    let l = c .before .before .before .before .before in
-    let a = l .before .before .args in
-    let is = c .before .before .wide .ensures ∙ c .before .before .before .item .ensures in
-    (search needs, below-more _ (l .loop .i) (l .loop .inv .1) (rw (← is) (not-false _ (c .if1 .left))))
+    let l = c .before .before .before .before in
+    (search needs, below-more _ (l .loop .i) (l .loop .inv .1) (rw (← c .before .before .wide .ensures) (not-false _ (c .if1 .left))))
 
 returns-2 : tie.Need-returns-2 Inv-loop μ-loop
 returns-2 c =
     let l = c .before in
-    λ e i q. l .loop .inv .1 i (omega (arith, l .before .size .ensures))
+    let n = l .before .before .before .size in
+    let list = l .before .before .before .before .args .list in
+    λ e i q.
+    let here : getD (listOf list) i 0 ≡ getD (list .at) i 0 = ap (λ (xs : List ℕ). getD xs i 0) (sym (list-taken list (n .result) (n .ensures))) ∙ getD-take (n .result) (list .at) i 0 (omega (arith, n .ensures)) in
+    rw here (l .loop .inv .1 i (omega (arith, n .ensures)))
 
 pub all-marked-spec : {M : Type 1} → statement M
 all-marked-spec =
@@ -62,8 +73,10 @@ all-marked-spec =
     Inv-loop
     μ-loop
     size-requires
+    known-few-requires
     loop-holds
-    item-requires
+    mul-wide
+    array-read-wide
     wide-requires
     element-copy-out-if1
     returns

@@ -1,10 +1,12 @@
 -- `pairs::near::mark` meets its contract. The loop keeps the marks of as many numbers as it passed. Assumes nothing.
 use Prim.Native.Nat.{_-_, _≤_}
 use native.Mathlib.Omega.{arith}
-use mathlib.Core.Path.{_≡_, refl}
-use lib.ListN.{length}
+use mathlib.Core.Path.{_≡_, refl, sym}
+use lib.ListN.{length, getD, take}
+use lib.Seq.{getD-take}
 use Rattle.rules.specs.Table.{upTo}
 use Rattle.rules.specs.Mesh.{listOf}
+use Rattle.lists.proofs.Laws.{list-taken}
 use Rattle.pairs.specs.Pairs.{markedAt}
 use Rattle.pairs.proofs.Steps.{markAt, marks-more}
 use borrow.Author.Needs.{needs}
@@ -12,20 +14,26 @@ use Rattle.pairs.proofs.near.mark.Statement.{statement}
 use Rattle.pairs.proofs.near.mark.Tie as tie
 
 abbrev Inv-loop : tie.InvT-loop
-Inv-loop seen₀ list n i₀ seen i = (i ≤ n) × (seen ≡ upTo (markAt (listOf list)) i seen₀)
+Inv-loop seen₀ n at i₀ seen i = (i ≤ n) × (seen ≡ upTo (markAt (take n at)) i seen₀)
 
 abbrev μ-loop : tie.MeasureT-loop
-μ-loop seen₀ list n i₀ seen i = n - i
+μ-loop seen₀ n at i₀ seen i = n - i
 
 size-requires : tie.Need-size-requires Inv-loop μ-loop
 size-requires c κs = search needs
+
+known-few-requires : tie.Need-known-few-requires Inv-loop μ-loop
+known-few-requires c κs = search needs
 
 loop-holds : tie.Need-loop-holds Inv-loop μ-loop
 unfolding upTo
 loop-holds c = (search needs, refl)
 
-item-requires : tie.Need-item-requires Inv-loop μ-loop
-item-requires c κs = search needs
+mul-wide : tie.Need-mul-wide Inv-loop μ-loop
+mul-wide c = search needs
+
+array-read-wide : tie.Need-array-read-wide Inv-loop μ-loop
+array-read-wide c = search needs
 
 wide-requires : tie.Need-wide-requires Inv-loop μ-loop
 wide-requires c κs = search needs
@@ -41,16 +49,21 @@ loop-less c = search needs
 
 loop-again : tie.Need-loop-again Inv-loop μ-loop
 loop-again c =
-    let l = c .before .before .before in
-    let a = l .before .before .args in
-    (search needs, marks-more (listOf (a .list)) (a .seen .now) (l .loop .seen) (l .loop .i) (c .before .item .result) (c .wide .result) (c .before .item .ensures) (c .wide .ensures) (l .loop .inv .1))
+    let l = c .before .before in
+    let n = l .before .before .before .size in
+    let a = l .before .before .before .before .args in
+    let here : getD (take (n .result) (a .list .at)) (l .loop .i) 0 ≡ getD (a .list .at) (l .loop .i) 0 = getD-take (n .result) (a .list .at) (l .loop .i) 0 (search needs) in
+    (search needs, marks-more (take (n .result) (a .list .at)) (a .seen .now) (l .loop .seen) (l .loop .i) (getD (a .list .at) (l .loop .i) 0) (c .wide .result) (sym here) (c .wide .ensures) (l .loop .inv .1))
 
 returns : tie.Need-returns Inv-loop μ-loop
 unfolding markedAt
 returns c =
     let l = c .before in
-    let all : l .loop .i ≡ length (listOf (l .before .before .args .list)) = omega (arith, l .before .size .ensures) in
-    rw all at (l .loop .inv .1)
+    let n = l .before .before .before .size in
+    let a = l .before .before .before .before .args in
+    let all : take (n .result) (a .list .at) ≡ listOf (a .list) = list-taken (a .list) (n .result) (n .ensures) in
+    let end : l .loop .i ≡ length (listOf (a .list)) = omega (arith, n .ensures) in
+    rw (end, all) at (l .loop .inv .1)
 
 pub mark-spec : {M : Type 1} → statement M
 mark-spec =
@@ -59,8 +72,10 @@ mark-spec =
     Inv-loop
     μ-loop
     size-requires
+    known-few-requires
     loop-holds
-    item-requires
+    mul-wide
+    array-read-wide
     wide-requires
     element-write-seen
     add-i
