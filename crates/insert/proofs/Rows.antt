@@ -170,15 +170,24 @@ unfolding listFrom
 got-all arcs edges leads rows longest n en many h k l =
     rw (list-at-place arcs edges (count used arcs) leads k) (h k (omega arith) (count used arcs) many)
 
+-- a list of what was made of each of a list's links is as long
+module _ (f : ℕ → ℕ) (l : List ℕ) (made : Links) (few : length l ≤ 64) (e : made ≡ linksOf (map f l)) where
+  made-back : listOf made ≡ map f l
+  made-back = ap listOf e ∙ list-back (map f l) (omega (arith, length-map l f))
+
+  pub made-many : length (listOf made) ≡ length l
+  made-many = ap length made-back ∙ length-map l f
+
 -- the lists from the leading arcs of the perimeter's vertices are those of the mesh
 module _ (m : Mesh) (per : List ℕ) (rows : List (List ℕ)) (leads : Links) (few : length per ≤ 64) (el : leads ≡ linksOf (map (λ v. cell (m .vertices) v 1) per))
     (h : Taken rows (listsFrom (m .arcs) (m .edges) (count used (m .arcs)) (listOf leads)) (length (listOf leads))) where
   taken-lists : Taken rows (listsOf m per) (length per)
   unfolding arcCount
   taken-lists =
-      let back : listOf leads ≡ map (λ v. cell (m .vertices) v 1) per = ap listOf el ∙ list-back (map (λ v. cell (m .vertices) v 1) per) (omega (arith, length-map per (λ v. cell (m .vertices) v 1))) in
+      let lead : ℕ → ℕ = λ v. cell (m .vertices) v 1 in
+      let back : listOf leads ≡ map lead per = made-back lead per leads few el in
       let lists : listsFrom (m .arcs) (m .edges) (count used (m .arcs)) (listOf leads) ≡ listsOf m per = rw back (sym (lists-are m per)) in
-      let many : length (listOf leads) ≡ length per = ap length back ∙ length-map per (λ v. cell (m .vertices) v 1) in
+      let many : length (listOf leads) ≡ length per = made-many lead per leads few el in
       subst (Taken rows (listsOf m per)) many (subst (λ (l : List (List ℕ)). Taken rows l (length (listOf leads))) lists h)
 
   -- an insert by their rows, also into another mesh

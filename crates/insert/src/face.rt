@@ -25,6 +25,9 @@ ghost use Rattle.edges.specs.Free.{UsedBefore};
 ghost use Rattle.pairs.specs.Pairs.{arcsOf};
 ghost use Rattle.insert.specs.Perimeter.{listsFrom};
 
+// How many corners most faces have, at the most: their lists need few rows.
+const FEW: usize = 4;
+
 // The edges, the face with the first perimeter arc, the interior, then the exterior, by lists from these leading arcs. found are the perimeter's
 // arcs as they are.
 fn put_face_by(
@@ -152,8 +155,60 @@ fn insert_copied(
     );
 }
 
-// The insert of a perimeter that the checks let pass: the lists are taken first. found are the perimeter's arcs; unused rows are
+// The insert of a perimeter that the checks let pass: the lists are taken first, into these rows. found are the perimeter's arcs; unused rows are
 // looked for from these on.
+fn insert_in_rows(
+    vertices: &mut [VertexRow],
+    arcs: &mut [ArcRow],
+    edges: &mut [EdgeRow],
+    faces: &mut [FaceRow],
+    counters: &mut [u32; 3],
+    rows: &mut [[u32; RING]],
+    past: &mut [ArcRow],
+    pastedges: &mut [EdgeRow],
+    per: Links,
+    found: Links,
+    from: Lowest,
+    mark: u32,
+)
+    requires { ⌜ (length (now past) ≡ length (now arcs)) × (length (now pastedges) ≡ length (now edges)) ⌝ }
+    requires { ⌜ length (listOf per) ≤ length (now rows) ⌝ }
+    requires { ⌜ listOf found ≡ arcsOf (now arcs) (listOf per) ⌝ }
+    requires { ⌜ UsedBefore (now arcs) (from .arc) × (UsedBefore (now edges) (from .edge) × UsedBefore (now faces) (from .face)) ⌝ }
+    ensures { λ _. ⌜ ((p : List (List Float)) → mesh (now (vertices .exit)) p (now (arcs .exit)) (now (edges .exit)) (now (faces .exit)) (now (counters .exit)) ≡ putFace (mesh (now (vertices .entry)) p (now (arcs .entry)) (now (edges .entry)) (now (faces .entry)) (now (counters .entry))) (listOf per) (listsOf (mesh (now (vertices .entry)) p (now (arcs .entry)) (now (edges .entry)) (now (faces .entry)) (now (counters .entry))) (listOf per)) mark) ⌝ }
+{
+    lists::known_few(per);
+    let leads = perimeter::leading_arcs(vertices, per);
+    if taken::take_lists(arcs, edges, leads, rows) {
+        put_face_taken(
+            vertices,
+            arcs,
+            edges,
+            faces,
+            counters,
+            rows,
+            per,
+            found,
+            from,
+            mark,
+        );
+        return;
+    }
+    insert_copied(
+        vertices,
+        arcs,
+        edges,
+        faces,
+        counters,
+        past,
+        pastedges,
+        per,
+        found,
+        mark,
+    );
+}
+
+// The same with rows of its own.
 pub fn insert_by(
     vertices: &mut [VertexRow],
     arcs: &mut [ArcRow],
@@ -173,16 +228,17 @@ pub fn insert_by(
     ensures { λ _. ⌜ ((p : List (List Float)) → mesh (now (vertices .exit)) p (now (arcs .exit)) (now (edges .exit)) (now (faces .exit)) (now (counters .exit)) ≡ putFace (mesh (now (vertices .entry)) p (now (arcs .entry)) (now (edges .entry)) (now (faces .entry)) (now (counters .entry))) (listOf per) (listsOf (mesh (now (vertices .entry)) p (now (arcs .entry)) (now (edges .entry)) (now (faces .entry)) (now (counters .entry))) (listOf per)) mark) ⌝ }
 {
     lists::known_few(per);
-    let leads = perimeter::leading_arcs(vertices, per);
-    let mut rows = [[0u32; RING]; RING];
-    if taken::take_lists(arcs, edges, leads, &mut rows) {
-        put_face_taken(
+    if lists::size(per) <= FEW {
+        let mut rows = [[0u32; RING]; FEW];
+        insert_in_rows(
             vertices,
             arcs,
             edges,
             faces,
             counters,
-            &rows,
+            &mut rows,
+            past,
+            pastedges,
             per,
             found,
             from,
@@ -190,16 +246,19 @@ pub fn insert_by(
         );
         return;
     }
-    insert_copied(
+    let mut rows = [[0u32; RING]; RING];
+    insert_in_rows(
         vertices,
         arcs,
         edges,
         faces,
         counters,
+        &mut rows,
         past,
         pastedges,
         per,
         found,
+        from,
         mark,
     );
 }

@@ -95,7 +95,7 @@ pub fn take_lists(
     leads: Links,
     rows: &mut [[u32; RING]],
 ) -> bool
-    requires { ⌜ length (now rows) ≡ 64 ⌝ }
+    requires { ⌜ length (listOf leads) ≤ length (now rows) ⌝ }
     ensures { λ r. ⌜ (r ≡ true → Taken (now (rows .exit)) (listsFrom (now (arcs .entry)) (now (edges .entry)) (count used (now (arcs .entry))) (listOf leads)) (length (listOf leads))) ⌝ }
 {
     let n = lists::size(leads);

@@ -95,6 +95,8 @@ fn both_taken(
     requires { ⌜ (length (now ours) ≡ 64) × (length (now theirs) ≡ 64) ⌝ }
     ensures { λ r. ⌜ (r ≡ true → Taken (now (ours .exit)) (listsFrom (now (arcs .entry)) (now (edges .entry)) (count used (now (arcs .entry))) (listOf leads)) (length (listOf leads)) × Taken (now (theirs .exit)) (listsFrom (now (arcs .entry)) (now (edges .entry)) (count used (now (arcs .entry))) (listOf seconds)) (length (listOf seconds))) ⌝ }
 {
+    lists::known_few(leads);
+    lists::known_few(seconds);
     if !insert::taken::take_lists(arcs, edges, leads, ours) {
         return false;
     }

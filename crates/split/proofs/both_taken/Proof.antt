@@ -8,6 +8,12 @@ use borrow.Author.Needs.{needs}
 use Rattle.split.proofs.both_taken.Statement.{statement}
 use Rattle.split.proofs.both_taken.Tie as tie
 
+known-few-requires : tie.Need-known-few-requires
+known-few-requires c κs = search needs
+
+known-few-requires-2 : tie.Need-known-few-requires-2
+known-few-requires-2 c κs = search needs
+
 take-lists-requires : tie.Need-take-lists-requires
 take-lists-requires c κs = search needs
 
@@ -33,6 +39,8 @@ pub both-taken-spec : {M : Type 1} → statement M
 both-taken-spec =
     tie.close
     (tie.spec
+    known-few-requires
+    known-few-requires-2
     take-lists-requires
     same-length
     returns

@@ -1,6 +1,4 @@
--- `insert::face::insert_by` meets its contract: by the rows of the lists that are taken, or by copies of the tables. Assumes nothing.
-use Rattle.rules.specs.Mesh.{Mesh, mesh, listOf}
-use Rattle.insert.proofs.Rows.{insert-taken}
+-- `insert::face::insert_by` meets its contract: with few rows or with 64, as many as the perimeter can need. Assumes nothing.
 use native.Mathlib.Omega.{arith}
 use borrow.Author.Needs.{needs}
 use Rattle.insert.proofs.face.insert_by.Statement.{statement}
@@ -9,22 +7,18 @@ use Rattle.insert.proofs.face.insert_by.Tie as tie
 known-few-requires : tie.Need-known-few-requires
 known-few-requires c κs = search needs
 
-leading-arcs-requires : tie.Need-leading-arcs-requires
-leading-arcs-requires c κs = search needs
+size-requires : tie.Need-size-requires
+size-requires c κs = search needs
 
-slice-aggregate-take-lists : tie.Need-slice-aggregate-take-lists
-slice-aggregate-take-lists c = search needs
+slice-aggregate-insert-in-rows : tie.Need-slice-aggregate-insert-in-rows
+slice-aggregate-insert-in-rows c = search needs
 
-take-lists-requires : tie.Need-take-lists-requires
-take-lists-requires c κs = search needs
-
-slice-aggregate-put-face-taken : tie.Need-slice-aggregate-put-face-taken
-slice-aggregate-put-face-taken c = search needs
-
-put-face-taken-requires : tie.Need-put-face-taken-requires
-put-face-taken-requires c κs =
-    let s = c .before .before .before .before .before .before .before .before .before .before .before .before .before .before .before in
-    ((omega (arith, c .before .before .before .before .before .before .before .before .before .before .before .before .before .before .known-few .ensures, c .before .before .before .before .before .before .before .before .take-lists .kept .1 .1 .1 .0), s .pre .1 .0), s .pre .1 .1)
+insert-in-rows-requires : tie.Need-insert-in-rows-requires
+insert-in-rows-requires c κs =
+    let s = c .before .before .before .before .before .before .before .before .before .before .before in
+    let size = c .before .before .before .before .before .before .before .before .before .size .ensures in
+    let few = c .before .before .before .before .before .before .before .before .before .before .known-few .ensures in
+    (s .pre .0, (omega (arith, size, few), (s .pre .1 .0, s .pre .1 .1)))
 
 same-length : tie.Need-same-length
 same-length c = search needs
@@ -38,26 +32,24 @@ same-length-3 c = search needs
 same-length-4 : tie.Need-same-length-4
 same-length-4 c = search needs
 
-returns : tie.Need-returns
-returns c =
-    λ p.
-    let a = c .before .before .before .before .before .before .before .before .before .before .before .before .before .before .before .before .before .before .before .before .args in
-    let g = c .before .before .before .before .put-face-taken in
-    let t = c .before .before .before .before .before .before .before .before .before .before .before .before .before .take-lists in
-    let m : Mesh = mesh (a .vertices .now) p (a .arcs .now) (a .edges .now) (a .faces .now) (a .counters .now) in
-    let o : Mesh = mesh (g .last .0) p (g .last .1 .0) (g .last .1 .1 .0) (g .last .1 .1 .1 .0) (g .last .1 .1 .1 .1 .0) in
-    insert-taken m (listOf (a .per)) (t .last .1 .1 .1 .0) (c .before .before .before .before .before .before .before .before .before .before .before .before .before .before .before .before .before .leading-arcs .result) (c .before .before .before .before .before .before .before .before .before .before .before .before .before .before .before .before .before .before .before .known-few .ensures) (c .before .before .before .before .before .before .before .before .before .before .before .before .before .before .before .before .before .leading-arcs .ensures) (t .ensures (c .before .before .before .before .before .before .before .before .before .before .before .if1 .taken)) o (a .mark) (g .ensures p)
-
-insert-copied-requires : tie.Need-insert-copied-requires
-insert-copied-requires c κs =
-    let s = c .before .before .before .before .before .before .before .before .before .before .before .before .before .before .before .before in
-    (s .pre .0, s .pre .1 .0)
-
 same-length-5 : tie.Need-same-length-5
 same-length-5 c = search needs
 
 same-length-6 : tie.Need-same-length-6
 same-length-6 c = search needs
+
+returns : tie.Need-returns
+returns c = search needs
+
+slice-aggregate-insert-in-rows-2 : tie.Need-slice-aggregate-insert-in-rows-2
+slice-aggregate-insert-in-rows-2 c = search needs
+
+insert-in-rows-requires-2 : tie.Need-insert-in-rows-requires-2
+insert-in-rows-requires-2 c κs =
+    let s = c .before .before .before .before .before .before .before .before .before .before .before in
+    let size = c .before .before .before .before .before .before .before .before .before .size .ensures in
+    let few = c .before .before .before .before .before .before .before .before .before .before .known-few .ensures in
+    (s .pre .0, (omega (arith, size, few), (s .pre .1 .0, s .pre .1 .1)))
 
 same-length-7 : tie.Need-same-length-7
 same-length-7 c = search needs
@@ -71,6 +63,12 @@ same-length-9 c = search needs
 same-length-10 : tie.Need-same-length-10
 same-length-10 c = search needs
 
+same-length-11 : tie.Need-same-length-11
+same-length-11 c = search needs
+
+same-length-12 : tie.Need-same-length-12
+same-length-12 c = search needs
+
 returns-2 : tie.Need-returns-2
 returns-2 c = search needs
 
@@ -79,21 +77,22 @@ insert-by-spec =
     tie.close
     (tie.spec
     known-few-requires
-    leading-arcs-requires
-    slice-aggregate-take-lists
-    take-lists-requires
-    slice-aggregate-put-face-taken
-    put-face-taken-requires
+    size-requires
+    slice-aggregate-insert-in-rows
+    insert-in-rows-requires
     same-length
     same-length-2
     same-length-3
     same-length-4
-    returns
-    insert-copied-requires
     same-length-5
     same-length-6
+    returns
+    slice-aggregate-insert-in-rows-2
+    insert-in-rows-requires-2
     same-length-7
     same-length-8
     same-length-9
     same-length-10
+    same-length-11
+    same-length-12
     returns-2)
