@@ -2,7 +2,7 @@
 use Prim.Native.Nat.{ℕ, zero, suc, _+_, _-_, _≤_, _<_, min}
 use native.Mathlib.Numerals.{add-one}
 use native.Mathlib.Omega.{arith}
-use native.Mathlib.Decide.{decLt}
+use native.Mathlib.Decide.{decLt, ℕ-discrete}
 use mathlib.Core.Path.{_≡_, refl, ap, sym, _∙_}
 use mathlib.Core.Bool.{true, false, not, _&&_, _||_}
 use mathlib.Core.List.{List, [], _∷_, _++_, map}
@@ -11,7 +11,7 @@ use lib.Seq.{take-suc, drop-cons, take-all, take-take, take-append-le, length-ta
 use lib.Dec.{eqb}
 use borrow.Author.Tests.{eq-eqb, ne-eqb}
 use Rattle.rules.specs.declared.Links.{Links}
-use Rattle.rules.specs.Table.{has, distinct}
+use Rattle.rules.specs.Table.{has, distinct, after}
 use Rattle.rules.specs.Mesh.{placesOf, linksOf, listOf}
 use Rattle.walks.proofs.Listing.{Made, pushed}
 
@@ -39,6 +39,18 @@ item-in l i q = getD-take (l .len) (l .at) i 0 q
 pub item-past : (l : Links) (i : ℕ) → l .len ≤ i → getD (listOf l) i 0 ≡ 0
 unfolding listOf
 item-past l i q = List·getD-eq-default (take (l .len) (l .at)) 0 (omega (arith, length-take (l .len) (l .at)))
+
+-- a place before its end, by how many it has
+pub place-in : (l : Links) (n i : ℕ) → n ≡ length (listOf l) → i < n → getD (l .at) i 0 ≡ getD (listOf l) i 0
+place-in l n i e q = sym (getD-take n (l .at) i 0 q) ∙ ap (λ (o : List ℕ). getD o i 0) (list-taken l n e)
+
+-- the place after one on a ring is on it
+pub next-on : (n i j : ℕ) → i < n → j ≡ after n i → j < n
+next-on n i j l e = rw e (go (ℕ-discrete (i + 1) n))
+  where
+    go : Dec (i + 1 ≡ n) → after n i < n
+    go (yes q) = rw (eq-eqb (i + 1) n q) (omega arith)
+    go (no nq) = rw (ne-eqb (i + 1) n nq) (omega arith)
 
 -- ---- what stands from a place on
 

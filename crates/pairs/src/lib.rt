@@ -113,9 +113,9 @@ pub fn met_before(per: Links, i: usize) -> bool
 {
     let n = lists::size(per);
     lists::known_few(per);
-    let a = lists::item(per, i);
-    let b = lists::item(per, lists::place_after(n, i));
     let at = per.at;
+    let a = at[i];
+    let b = at[lists::place_after(n, i)];
     let mut j: usize = 0;
     while j < i {
         if same_two(at[j], at[j + 1], a, b) {

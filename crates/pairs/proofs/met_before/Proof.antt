@@ -6,6 +6,7 @@ use mathlib.Core.Bool.{Bool, false}
 use lib.ListN.{length, getD}
 use Rattle.rules.specs.Table.{someBelow, after}
 use Rattle.rules.specs.Mesh.{listOf}
+use Rattle.lists.proofs.Laws.{place-in, next-on}
 use Rattle.pairs.specs.Pairs.{sameTwo, meets, metBefore}
 use Rattle.pairs.proofs.Below.{some-more, some-here}
 use Rattle.pairs.proofs.Steps.{pair-two}
@@ -14,10 +15,10 @@ use Rattle.pairs.proofs.met_before.Statement.{statement}
 use Rattle.pairs.proofs.met_before.Tie as tie
 
 abbrev Inv-loop : tie.InvT-loop
-Inv-loop i n a b at j₀ j = (j ≤ i) × ((p : ℕ → Bool) → ((k : ℕ) → k < i → p k ≡ sameTwo (getD at k 0) (getD at (k + 1) 0) a b) → someBelow p j ≡ false)
+Inv-loop i n at a b j₀ j = (j ≤ i) × ((p : ℕ → Bool) → ((k : ℕ) → k < i → p k ≡ sameTwo (getD at k 0) (getD at (k + 1) 0) a b) → someBelow p j ≡ false)
 
 abbrev μ-loop : tie.MeasureT-loop
-μ-loop i n a b at j₀ j = i - j
+μ-loop i n at a b j₀ j = i - j
 
 size-requires : tie.Need-size-requires Inv-loop μ-loop
 size-requires c κs = search needs
@@ -25,14 +26,28 @@ size-requires c κs = search needs
 known-few-requires : tie.Need-known-few-requires Inv-loop μ-loop
 known-few-requires c κs = search needs
 
-item-requires : tie.Need-item-requires Inv-loop μ-loop
-item-requires c κs = search needs
+mul-a : tie.Need-mul-a Inv-loop μ-loop
+mul-a c = search needs
+
+array-read-a : tie.Need-array-read-a Inv-loop μ-loop
+array-read-a c = search needs
 
 place-after-requires : tie.Need-place-after-requires Inv-loop μ-loop
 place-after-requires c κs = search needs
 
-item-requires-2 : tie.Need-item-requires-2 Inv-loop μ-loop
-item-requires-2 c κs = search needs
+-- the place after i is one of the 64
+next-few : (c : tie.After-place-after Inv-loop μ-loop) → c .place-after .result < 64
+next-few c =
+    let n = c .before .before .before .size in
+    let s = c .before .before .before .before in
+    let on : c .place-after .result < n .result = next-on (n .result) (s .args .i) (c .place-after .result) (omega (arith, n .ensures, s .pre)) (c .place-after .ensures) in
+    omega (arith, n .ensures, c .before .before .known-few .ensures)
+
+mul-b : tie.Need-mul-b Inv-loop μ-loop
+mul-b c = omega (arith, next-few c)
+
+array-read-b : tie.Need-array-read-b Inv-loop μ-loop
+array-read-b c = next-few c
 
 loop-holds : tie.Need-loop-holds Inv-loop μ-loop
 unfolding someBelow
@@ -57,20 +72,22 @@ same-two-requires : tie.Need-same-two-requires Inv-loop μ-loop
 same-two-requires c κs = search needs
 
 -- at the loop: each pair before i, by the array
-by-array : (l : tie.At-loop Inv-loop μ-loop) (k : ℕ) → let a = l .before .before .before .before .before .before .before .args in let per = listOf (a .per) in k < a .i → meets per (getD per (a .i) 0) (getD per (after (length per) (a .i)) 0) k ≡ sameTwo (getD (a .per .at) k 0) (getD (a .per .at) (k + 1) 0) (l .before .before .before .before .item .result) (l .before .before .item2 .result)
+by-array : (l : tie.At-loop Inv-loop μ-loop) (k : ℕ) → let a = l .before .before .before .before .before .args in let per = listOf (a .per) in k < a .i → meets per (getD per (a .i) 0) (getD per (after (length per) (a .i)) 0) k ≡ sameTwo (getD (a .per .at) k 0) (getD (a .per .at) (k + 1) 0) (getD (a .per .at) (a .i) 0) (getD (a .per .at) (l .before .place-after .result) 0)
 by-array l k q =
-    let s = l .before .before .before .before .before .before .before in
-    let size = l .before .before .before .before .before .before .size in
-    let next = l .before .before .before .place-after in
-    let from = l .before .before .before .before .item in
-    let to = l .before .before .item2 in
-    pair-two (s .args .per) (s .args .i) k (size .result) (next .result) (from .result) (to .result) (s .pre) q (size .ensures) (next .ensures) (from .ensures) (to .ensures)
+    let s = l .before .before .before .before .before in
+    let a = s .args in
+    let n = l .before .before .before .before .size in
+    let j = l .before .place-after in
+    let on : a .i < n .result = omega (arith, n .ensures, s .pre) in
+    let from = place-in (a .per) (n .result) (a .i) (n .ensures) on in
+    let to = place-in (a .per) (n .result) (j .result) (n .ensures) (next-on (n .result) (a .i) (j .result) on (j .ensures)) in
+    pair-two (a .per) (a .i) k (n .result) (j .result) (getD (a .per .at) (a .i) 0) (getD (a .per .at) (j .result) 0) (s .pre) q (n .ensures) (j .ensures) from to
 
 returns : tie.Need-returns Inv-loop μ-loop
 unfolding metBefore
 returns c =
     let l = c .before .before .before in
-    let a = l .before .before .before .before .before .before .before .args in
+    let a = l .before .before .before .before .before .args in
     let per = listOf (a .per) in
     let meet = meets per (getD per (a .i) 0) (getD per (after (length per) (a .i)) 0) in
     sym (some-here meet (a .i) (l .loop .j) (search needs) (by-array l (l .loop .j) (search needs) ∙ sym (c .before .same-two .ensures) ∙ c .if1 .taken))
@@ -90,7 +107,7 @@ returns-2 : tie.Need-returns-2 Inv-loop μ-loop
 unfolding metBefore
 returns-2 c =
     let l = c .before in
-    let a = l .before .before .before .before .before .before .before .args in
+    let a = l .before .before .before .before .before .args in
     let per = listOf (a .per) in
     let all : l .loop .j ≡ a .i = omega arith in
     sym (rw all at (l .loop .inv .1 (meets per (getD per (a .i) 0) (getD per (after (length per) (a .i)) 0)) (by-array l)))
@@ -103,9 +120,11 @@ met-before-spec =
     μ-loop
     size-requires
     known-few-requires
-    item-requires
+    mul-a
+    array-read-a
     place-after-requires
-    item-requires-2
+    mul-b
+    array-read-b
     loop-holds
     mul-same-two
     array-read-same-two
