@@ -1,7 +1,7 @@
 -- The pairs of a perimeter: the arc of a pair by the list of them; the tests that the loops make at a pair; and the list of corners.
-use Prim.Native.Nat.{ℕ, _≤_}
+use Prim.Native.Nat.{ℕ, _≤_, _<_}
 use native.Mathlib.Omega.{arith}
-use mathlib.Core.Path.{_≡_, refl, ap, _∙_}
+use mathlib.Core.Path.{_≡_, refl, ap, sym, _∙_}
 use mathlib.Core.Bool.{Bool, true, false, not, _&&_, _||_, cond}
 use mathlib.Core.List.{List, map}
 use lib.ListN.{length, getD, length-map}
@@ -9,7 +9,7 @@ use lib.Dec.{eqb}
 use Rattle.rules.specs.declared.Links.{Links}
 use Rattle.rules.specs.declared.Edit.{Edit}
 use Rattle.rules.specs.declared.Edit.the-variants.{FaceInsert}
-use borrow.Author.Tests.{eq-eqb, ne-eqb, leb-true}
+use borrow.Author.Tests.{leb-true}
 use Rattle.rules.specs.Table.{Table, cell, has, after}
 use Rattle.rules.specs.Mesh.{Mesh, dest, next, face, findKey, linksOf, listOf}
 use Rattle.rules.specs.Insert.{arcAt, hasFace, leadsBack}
@@ -17,11 +17,18 @@ use Rattle.rules.specs.Edit.{corners}
 use Rattle.rules.specs.Call.{given, byKeys}
 use Rattle.rules.proofs.Places.{list-back}
 use Rattle.pairs.specs.Pairs.{arcsOf}
-use Rattle.pairs.proofs.Listed.{arc-of-pair, arcs-past}
+use Rattle.pairs.proofs.Listed.{arc-of-pair, arcs-past, arcs-length}
+use Rattle.lists.proofs.Laws.{place-in}
 
 -- the arc of a pair, by the list of them
 pub arc-listed : (m : Mesh) (per : List ℕ) (xs : Links) (i x : ℕ) → listOf xs ≡ arcsOf (m .arcs) per → x ≡ getD (listOf xs) i 0 → x ≡ arcAt m per i
 arc-listed m per xs i x e h = h ∙ ap (λ (l : List ℕ). getD l i 0) e ∙ arc-of-pair m per i
+
+-- the same, by the list's places
+pub arc-at-place : (m : Mesh) (per : List ℕ) (xs : Links) (n i : ℕ) → listOf xs ≡ arcsOf (m .arcs) per → n ≡ length per → i < n → getD (xs .at) i 0 ≡ arcAt m per i
+arc-at-place m per xs n i e en q =
+    let many : n ≡ length (listOf xs) = en ∙ sym (ap length e ∙ arcs-length (m .arcs) per) in
+    arc-listed m per xs i (getD (xs .at) i 0) e (place-in xs n i many q)
 
 -- ---- what is asked at pair i
 
@@ -38,33 +45,16 @@ pub face-of-arc : (m : Mesh) (per : List ℕ) (i x : ℕ) (r : Bool) → x ≡ a
 unfolding hasFace
 face-of-arc m per i x r e h = rw (← e) h
 
--- whether it leads back: one law for each way out of the code. x is its arc, w its follower and y its next
-module _ (m : Mesh) (per : List ℕ) (i : ℕ) where
-  pub back-past : length per ≤ i → false ≡ leadsBack m per i
-  unfolding leadsBack
-  back-past h = rw (← arc-of-pair m per i, arcs-past (m .arcs) per i h)
+-- whether it leads back. x is its arc, and w the one of the pair after
+pub back-past : (m : Mesh) (per : List ℕ) (i : ℕ) → length per ≤ i → false ≡ leadsBack m per i
+unfolding leadsBack
+back-past m per i h = rw (← arc-of-pair m per i, arcs-past (m .arcs) per i h)
 
-  module _ {x : ℕ} (ex : x ≡ arcAt m per i) where
-    pub back-none : x ≡ 0 → false ≡ leadsBack m per i
-    unfolding leadsBack
-    back-none e = rw (← ex, eq-eqb x 0 e)
-
-    module _ (there : x ≡ 0 → ⊥) {n j w : ℕ} (en : n ≡ length per) (ej : j ≡ after n i) (ew : w ≡ arcAt m per j) where
-      follower : w ≡ arcAt m per (after (length per) i)
-      follower = ew ∙ ap (arcAt m per) (ej ∙ ap (λ (k : ℕ). after k i) en)
-
-      pub back-followed : (w ≡ 0 → ⊥) → false ≡ leadsBack m per i
-      unfolding leadsBack
-      back-followed e = rw (← ex, ne-eqb x 0 there, ← follower, ne-eqb w 0 e)
-
-      module _ (absent : w ≡ 0) {y : ℕ} (ey : y ≡ next m x) where
-        pub back-ends : y ≡ 0 → false ≡ leadsBack m per i
-        unfolding leadsBack
-        back-ends e = rw (← ex, ne-eqb x 0 there, ← follower, eq-eqb w 0 absent, ← ey, eq-eqb y 0 e)
-
-        pub back-leads : (y ≡ 0 → ⊥) → {z : ℕ} → z ≡ dest m y → {r : Bool} → r ≡ has per z → r ≡ leadsBack m per i
-        unfolding leadsBack
-        back-leads on ez h = rw (← ex, ne-eqb x 0 there, ← follower, eq-eqb w 0 absent, ← ey, ne-eqb y 0 on, ← ez) h
+pub back-of-arc : (m : Mesh) (per : List ℕ) (i x n j w : ℕ) (r : Bool) → x ≡ arcAt m per i → n ≡ length per → j ≡ after n i → w ≡ arcAt m per j → r ≡ (not (eqb x 0) && (eqb w 0 && (not (eqb (next m x) 0) && has per (dest m (next m x))))) → r ≡ leadsBack m per i
+unfolding leadsBack
+back-of-arc m per i x n j w r ex en ej ew h =
+    let follower : w ≡ arcAt m per (after (length per) i) = ew ∙ ap (arcAt m per) (ej ∙ ap (λ (k : ℕ). after k i) en) in
+    rw (← ex, ← follower) h
 
 -- ---- lists as the code holds them
 

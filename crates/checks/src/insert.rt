@@ -5,6 +5,7 @@
 use rules::Answer;
 use rules::ArcRow;
 use rules::Links;
+use rules::RING;
 use rules::Refusal;
 use tables::answers;
 use tables::rows;
@@ -12,6 +13,7 @@ ghost use mathlib.Core.Path.{_≡_};
 ghost use mathlib.Core.Bool.{not, _&&_, cond};
 ghost use mathlib.Core.List.{List};
 ghost use Prim.Native.Nat.{ℕ};
+ghost use lib.ListN.{take};
 ghost use lib.Dec.{eqb};
 ghost use lib.Ieee.{Float};
 ghost use Rattle.rules.specs.declared.Answer.the-variants.{Done, Refused};
@@ -39,6 +41,23 @@ pub fn has_face(arcs: &[ArcRow], xs: Links, i: usize) -> bool
     faced(arcs, lists::item(xs, i))
 }
 
+// Whether x is an arc, its follower w is none, and its next leads to one of the first n of these vertices.
+fn leads_among(arcs: &[ArcRow], x: u32, w: u32, at: &[u32; RING], n: usize) -> bool
+    ensures { λ r. ⌜ r ≡ (not (eqb x 0) && (eqb w 0 && (not (eqb (cell (now (arcs .entry)) x 2) 0) && has (take n (now (at .entry))) (cell (now (arcs .entry)) (cell (now (arcs .entry)) x 2) 1)))) ⌝ }
+{
+    if x == 0 {
+        return false;
+    }
+    if w != 0 {
+        return false;
+    }
+    let y = rows::cell6(arcs, x, 2);
+    if y == 0 {
+        return false;
+    }
+    lists::stands_from(at, n, 0, rows::cell6(arcs, y, 1))
+}
+
 // An existing arc whose follower is absent, and whose next leads to a vertex of the perimeter.
 pub fn leads_back(arcs: &[ArcRow], xs: Links, per: Links, i: usize) -> bool
     ensures { λ r. ⌜ ((vs : Table) (ps : List (List Float)) (es fs : Table) (ks : List ℕ) → listOf xs ≡ arcsOf (now (arcs .entry)) (listOf per) → r ≡ Insert.leadsBack (mesh vs ps (now (arcs .entry)) es fs ks) (listOf per) i) ⌝ }
@@ -48,17 +67,9 @@ pub fn leads_back(arcs: &[ArcRow], xs: Links, per: Links, i: usize) -> bool
         return false;
     }
     let x = lists::item(xs, i);
-    if x == 0 {
-        return false;
-    }
-    if lists::item(xs, lists::place_after(n, i)) != 0 {
-        return false;
-    }
-    let y = rows::cell6(arcs, x, 2);
-    if y == 0 {
-        return false;
-    }
-    lists::has_from(per, 0, rows::cell6(arcs, y, 1))
+    let w = lists::item(xs, lists::place_after(n, i));
+    let at = per.at;
+    leads_among(arcs, x, w, &at, per.len)
 }
 
 // Whether some pair has either. xs are the arcs of the perimeter's pairs.
@@ -67,12 +78,17 @@ pub fn conflict_by(arcs: &[ArcRow], xs: Links, per: Links) -> bool
     ensures { λ r. ⌜ ((vs : Table) (ps : List (List Float)) (es fs : Table) (ks : List ℕ) → r ≡ Insert.conflict (mesh vs ps (now (arcs .entry)) es fs ks) (listOf per)) ⌝ }
 {
     let n = lists::size(per);
+    lists::known_few(per);
+    let found = xs.at;
+    let at = per.at;
     let mut i: usize = 0;
     while i < n {
-        if has_face(arcs, xs, i) {
+        let x = found[i];
+        if faced(arcs, x) {
             return true;
         }
-        if leads_back(arcs, xs, per, i) {
+        let w = found[lists::place_after(n, i)];
+        if leads_among(arcs, x, w, &at, n) {
             return true;
         }
         i += 1;

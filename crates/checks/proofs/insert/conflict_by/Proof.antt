@@ -1,57 +1,118 @@
 -- `checks::insert::conflict_by` meets its contract. The loop keeps that no pair passed by has a conflict; laws of Below. Assumes nothing.
-use borrow.Author.Needs.{needs}
-use Rattle.checks.proofs.insert.conflict_by.Statement.{statement}
-use Rattle.checks.proofs.insert.conflict_by.Tie as tie
-use Prim.Native.Nat.{ℕ, _-_, _≤_}
+use Prim.Native.Nat.{ℕ, _-_, _≤_, _<_}
 use native.Mathlib.Omega.{arith}
-use mathlib.Core.Path.{_≡_, refl, sym, _∙_}
+use mathlib.Core.Path.{_≡_, refl, ap, sym, _∙_}
 use mathlib.Core.Bool.{false}
 use mathlib.Core.List.{List}
-use lib.ListN.{length}
+use lib.ListN.{length, getD, take}
 use lib.Ieee.{Float}
 use Rattle.rules.specs.Table.{Table, someBelow}
 use Rattle.rules.specs.Mesh.{mesh, listOf}
-use Rattle.rules.specs.Insert.{conflict}
-use Rattle.pairs.proofs.Below.{some-more, some-here}
-use Rattle.checks.proofs.Pairs.{clash}
+use Rattle.rules.specs.Insert.{hasFace, leadsBack, conflict}
+use Rattle.lists.proofs.Laws.{list-taken, next-on}
 use Rattle.pairs.specs.Pairs.{arcsOf}
+use Rattle.pairs.proofs.Below.{some-more, some-here}
+use Rattle.checks.proofs.Pairs.{clash, arc-at-place, face-of-arc, back-of-arc}
+use borrow.Author.Needs.{needs}
+use Rattle.checks.proofs.insert.conflict_by.Statement.{statement}
+use Rattle.checks.proofs.insert.conflict_by.Tie as tie
 
 abbrev Inv-loop : tie.InvT-loop
-Inv-loop arcs xs per n i₀ i = (i ≤ n) × ((vs : Table) (ps : List (List Float)) (es fs : Table) (ks : List ℕ) → someBelow (clash (mesh vs ps arcs es fs ks) (listOf per)) i ≡ false)
+Inv-loop arcs n found at i₀ i = (i ≤ n) × ((vs : Table) (ps : List (List Float)) (es fs : Table) (ks : List ℕ) → someBelow (clash (mesh vs ps arcs es fs ks) (take n at)) i ≡ false)
 
 abbrev μ-loop : tie.MeasureT-loop
-μ-loop arcs xs per n i₀ i = n - i
+μ-loop arcs n found at i₀ i = n - i
 
 size-requires : tie.Need-size-requires Inv-loop μ-loop
 size-requires c κs = search needs
+
+known-few-requires : tie.Need-known-few-requires Inv-loop μ-loop
+known-few-requires c κs = search needs
 
 loop-holds : tie.Need-loop-holds Inv-loop μ-loop
 unfolding someBelow
 loop-holds c = (search needs, λ vs ps es fs ks. refl)
 
-has-face-requires : tie.Need-has-face-requires Inv-loop μ-loop
-has-face-requires c κs = search needs
+mul-x : tie.Need-mul-x Inv-loop μ-loop
+mul-x c = search needs
 
--- the list of arcs, at the loop
-held : (l : tie.At-loop Inv-loop μ-loop) → let a = l .before .before .args in listOf (a .xs) ≡ arcsOf (a .arcs .now) (listOf (a .per))
-held l = l .before .before .pre
+array-read-x : tie.Need-array-read-x Inv-loop μ-loop
+array-read-x c = search needs
+
+faced-requires : tie.Need-faced-requires Inv-loop μ-loop
+faced-requires c κs = search needs
+
+-- at the loop: the perimeter as far as it goes, how many it has, and its arcs
+whole : (l : tie.At-loop Inv-loop μ-loop) → let n = l .before .before .before .before .size in let a = l .before .before .before .before .before .args in take (n .result) (a .per .at) ≡ listOf (a .per)
+whole l =
+    let n = l .before .before .before .before .size in
+    list-taken (l .before .before .before .before .before .args .per) (n .result) (n .ensures)
+
+many : (l : tie.At-loop Inv-loop μ-loop) → let n = l .before .before .before .before .size in let a = l .before .before .before .before .before .args in n .result ≡ length (take (n .result) (a .per .at))
+many l = l .before .before .before .before .size .ensures ∙ sym (ap length (whole l))
+
+held : (l : tie.At-loop Inv-loop μ-loop) → let n = l .before .before .before .before .size in let a = l .before .before .before .before .before .args in listOf (a .xs) ≡ arcsOf (a .arcs .now) (take (n .result) (a .per .at))
+held l = l .before .before .before .before .before .pre ∙ ap (arcsOf (l .before .before .before .before .before .args .arcs .now)) (sym (whole l))
+
+-- what the two tests told at a pair
+face-at : (c : tie.After-faced Inv-loop μ-loop) (vs : Table) (ps : List (List Float)) (es fs : Table) (ks : List ℕ) → let l = c .before .before in let n = l .before .before .before .before .size in let a = l .before .before .before .before .before .args in c .faced .result ≡ hasFace (mesh vs ps (a .arcs .now) es fs ks) (take (n .result) (a .per .at)) (l .loop .i)
+face-at c vs ps es fs ks =
+    let l = c .before .before in
+    let n = l .before .before .before .before .size in
+    let a = l .before .before .before .before .before .args in
+    let m = mesh vs ps (a .arcs .now) es fs ks in
+    let x = arc-at-place m (take (n .result) (a .per .at)) (a .xs) (n .result) (l .loop .i) (held l) (many l) (c .before .loop-test .taken) in
+    face-of-arc m (take (n .result) (a .per .at)) (l .loop .i) (getD (a .xs .at) (l .loop .i) 0) (c .faced .result) x (c .faced .ensures)
+
+back-at : (c : tie.After-leads-among Inv-loop μ-loop) (vs : Table) (ps : List (List Float)) (es fs : Table) (ks : List ℕ) → let l = c .before .before .before .before .before .before in let n = l .before .before .before .before .size in let a = l .before .before .before .before .before .args in c .leads-among .result ≡ leadsBack (mesh vs ps (a .arcs .now) es fs ks) (take (n .result) (a .per .at)) (l .loop .i)
+back-at c vs ps es fs ks =
+    let l = c .before .before .before .before .before .before in
+    let n = l .before .before .before .before .size in
+    let a = l .before .before .before .before .before .args in
+    let j = c .before .before .place-after in
+    let m = mesh vs ps (a .arcs .now) es fs ks in
+    let on : l .loop .i < n .result = c .before .before .before .before .before .loop-test .taken in
+    let x = arc-at-place m (take (n .result) (a .per .at)) (a .xs) (n .result) (l .loop .i) (held l) (many l) on in
+    let w = arc-at-place m (take (n .result) (a .per .at)) (a .xs) (n .result) (j .result) (held l) (many l) (next-on (n .result) (l .loop .i) (j .result) on (j .ensures)) in
+    back-of-arc m (take (n .result) (a .per .at)) (l .loop .i) (getD (a .xs .at) (l .loop .i) 0) (n .result) (j .result) (getD (a .xs .at) (j .result) 0) (c .leads-among .result) x (many l) (j .ensures) w (c .leads-among .ensures)
 
 returns : tie.Need-returns Inv-loop μ-loop
 unfolding conflict
 returns c =
     let l = c .before .before .before in
-    let a = l .before .before .args in
-    λ vs ps es fs ks. sym (some-here (clash (mesh vs ps (a .arcs .now) es fs ks) (listOf (a .per))) (length (listOf (a .per))) (l .loop .i) (omega (arith, l .before .size .ensures)) (rw (sym (c .before .has-face .ensures vs ps es fs ks (listOf (a .per)) (held l)) ∙ c .if1 .taken)))
+    let n = l .before .before .before .before .size in
+    let a = l .before .before .before .before .before .args in
+    λ vs ps es fs ks.
+    let m = mesh vs ps (a .arcs .now) es fs ks in
+    sym (ap (conflict m) (sym (whole l)) ∙ some-here (clash m (take (n .result) (a .per .at))) (length (take (n .result) (a .per .at))) (l .loop .i) (omega (arith, many l)) (rw (sym (face-at (c .before) vs ps es fs ks) ∙ c .if1 .taken)))
 
-leads-back-requires : tie.Need-leads-back-requires Inv-loop μ-loop
-leads-back-requires c κs = search needs
+place-after-requires : tie.Need-place-after-requires Inv-loop μ-loop
+place-after-requires c κs = search needs
+
+mul-w : tie.Need-mul-w Inv-loop μ-loop
+mul-w c =
+    let l = c .before .before .before .before in
+    let n = l .before .before .before .before .size in
+    omega (arith, n .ensures, l .before .before .before .known-few .ensures, next-on (n .result) (l .loop .i) (c .place-after .result) (c .before .before .before .loop-test .taken) (c .place-after .ensures))
+
+array-read-w : tie.Need-array-read-w Inv-loop μ-loop
+array-read-w c =
+    let l = c .before .before .before .before in
+    let n = l .before .before .before .before .size in
+    omega (arith, n .ensures, l .before .before .before .known-few .ensures, next-on (n .result) (l .loop .i) (c .place-after .result) (c .before .before .before .loop-test .taken) (c .place-after .ensures))
+
+leads-among-requires : tie.Need-leads-among-requires Inv-loop μ-loop
+leads-among-requires c κs = search needs
 
 returns-2 : tie.Need-returns-2 Inv-loop μ-loop
 unfolding conflict
 returns-2 c =
-    let l = c .before .before .before .before .before in
-    let a = l .before .before .args in
-    λ vs ps es fs ks. sym (some-here (clash (mesh vs ps (a .arcs .now) es fs ks) (listOf (a .per))) (length (listOf (a .per))) (l .loop .i) (omega (arith, l .before .size .ensures)) (rw (sym (c .before .before .before .has-face .ensures vs ps es fs ks (listOf (a .per)) (held l)) ∙ c .before .before .if1 .left, sym (c .before .leads-back .ensures vs ps es fs ks (held l)) ∙ c .if2 .taken)))
+    let l = c .before .before .before .before .before .before .before in
+    let n = l .before .before .before .before .size in
+    let a = l .before .before .before .before .before .args in
+    λ vs ps es fs ks.
+    let m = mesh vs ps (a .arcs .now) es fs ks in
+    sym (ap (conflict m) (sym (whole l)) ∙ some-here (clash m (take (n .result) (a .per .at))) (length (take (n .result) (a .per .at))) (l .loop .i) (omega (arith, many l)) (rw (sym (face-at (c .before .before .before .before .before) vs ps es fs ks) ∙ c .before .before .before .before .if1 .left, sym (back-at (c .before) vs ps es fs ks) ∙ c .if2 .taken)))
 
 add-i : tie.Need-add-i Inv-loop μ-loop
 add-i c = search needs
@@ -61,16 +122,21 @@ loop-less c = search needs
 
 loop-again : tie.Need-loop-again Inv-loop μ-loop
 loop-again c =
-    let l = c .before .before .before .before .before in
-    let a = l .before .before .args in
-    (search needs, λ vs ps es fs ks. some-more (clash (mesh vs ps (a .arcs .now) es fs ks) (listOf (a .per))) (l .loop .i) (l .loop .inv .1 vs ps es fs ks) (rw (sym (c .before .before .before .has-face .ensures vs ps es fs ks (listOf (a .per)) (held l)) ∙ c .before .before .if1 .left, sym (c .before .leads-back .ensures vs ps es fs ks (held l)) ∙ c .if2 .left)))
+    let l = c .before .before .before .before .before .before .before in
+    let n = l .before .before .before .before .size in
+    let a = l .before .before .before .before .before .args in
+    (search needs, λ vs ps es fs ks. let m = mesh vs ps (a .arcs .now) es fs ks in some-more (clash m (take (n .result) (a .per .at))) (l .loop .i) (l .loop .inv .1 vs ps es fs ks) (rw (sym (face-at (c .before .before .before .before .before) vs ps es fs ks) ∙ c .before .before .before .before .if1 .left, sym (back-at (c .before) vs ps es fs ks) ∙ c .if2 .left)))
 
 returns-3 : tie.Need-returns-3 Inv-loop μ-loop
 unfolding conflict
 returns-3 c =
     let l = c .before in
-    let all : l .loop .i ≡ length (listOf (l .before .before .args .per)) = omega (arith, l .before .size .ensures) in
-    λ vs ps es fs ks. sym (rw all at (l .loop .inv .1 vs ps es fs ks))
+    let n = l .before .before .before .before .size in
+    let a = l .before .before .before .before .before .args in
+    let end : l .loop .i ≡ length (take (n .result) (a .per .at)) = omega (arith, many l) in
+    λ vs ps es fs ks.
+    let m = mesh vs ps (a .arcs .now) es fs ks in
+    sym (ap (conflict m) (sym (whole l)) ∙ rw end at (l .loop .inv .1 vs ps es fs ks))
 
 pub conflict-by-spec : {M : Type 1} → statement M
 conflict-by-spec =
@@ -79,10 +145,16 @@ conflict-by-spec =
     Inv-loop
     μ-loop
     size-requires
+    known-few-requires
     loop-holds
-    has-face-requires
+    mul-x
+    array-read-x
+    faced-requires
     returns
-    leads-back-requires
+    place-after-requires
+    mul-w
+    array-read-w
+    leads-among-requires
     returns-2
     add-i
     loop-less

@@ -1,0 +1,41 @@
+-- `checks::insert::leads_among` meets its contract. The tests of the code, in their order. Assumes nothing.
+use borrow.Author.Tests.{eq-eqb, ne-eqb}
+use borrow.Author.Needs.{needs}
+use Rattle.checks.proofs.insert.leads_among.Statement.{statement}
+use Rattle.checks.proofs.insert.leads_among.Tie as tie
+
+returns : tie.Need-returns
+returns c = rw (eq-eqb _ _ (c .if1 .taken))
+
+returns-2 : tie.Need-returns-2
+returns-2 c = rw (ne-eqb _ _ (c .before .if1 .left), ne-eqb _ _ (c .if2 .taken))
+
+cell6-requires : tie.Need-cell6-requires
+cell6-requires c κs = search needs
+
+returns-3 : tie.Need-returns-3
+returns-3 c = rw (ne-eqb _ _ (c .before .before .before .if1 .left), eq-eqb _ _ (c .before .before .if2 .left), ← c .before .cell6 .ensures, eq-eqb _ _ (c .if3 .taken))
+
+cell6-requires-2 : tie.Need-cell6-requires-2
+cell6-requires-2 c κs = search needs
+
+stands-from-requires : tie.Need-stands-from-requires
+stands-from-requires c κs = search needs
+
+returns-4 : tie.Need-returns-4
+returns-4 c =
+    let x = c .before .before .before .before .before .if1 in
+    let w = c .before .before .before .before .if2 in
+    rw (ne-eqb _ _ (x .left), eq-eqb _ _ (w .left), ← c .before .before .before .cell6 .ensures, ne-eqb _ _ (c .before .before .if3 .left), ← c .before .cell62 .ensures) (c .stands-from .ensures)
+
+pub leads-among-spec : {M : Type 1} → statement M
+leads-among-spec =
+    tie.close
+    (tie.spec
+    returns
+    returns-2
+    cell6-requires
+    returns-3
+    cell6-requires-2
+    stands-from-requires
+    returns-4)
