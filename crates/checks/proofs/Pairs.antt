@@ -17,7 +17,7 @@ use Rattle.rules.specs.Edit.{corners}
 use Rattle.rules.specs.Call.{given, byKeys}
 use Rattle.rules.proofs.Places.{list-back}
 use Rattle.pairs.specs.Pairs.{arcsOf}
-use Rattle.pairs.proofs.Listed.{arc-of-pair, arcs-past, arcs-length}
+use Rattle.pairs.proofs.Listed.{arc-of-pair, arcs-length}
 use Rattle.lists.proofs.Laws.{place-in}
 
 -- the arc of a pair, by the list of them
@@ -46,10 +46,6 @@ unfolding hasFace
 face-of-arc m per i x r e h = rw (← e) h
 
 -- whether it leads back. x is its arc, and w the one of the pair after
-pub back-past : (m : Mesh) (per : List ℕ) (i : ℕ) → length per ≤ i → false ≡ leadsBack m per i
-unfolding leadsBack
-back-past m per i h = rw (← arc-of-pair m per i, arcs-past (m .arcs) per i h)
-
 pub back-of-arc : (m : Mesh) (per : List ℕ) (i x n j w : ℕ) (r : Bool) → x ≡ arcAt m per i → n ≡ length per → j ≡ after n i → w ≡ arcAt m per j → r ≡ (not (eqb x 0) && (eqb w 0 && (not (eqb (next m x) 0) && has per (dest m (next m x))))) → r ≡ leadsBack m per i
 unfolding leadsBack
 back-of-arc m per i x n j w r ex en ej ew h =

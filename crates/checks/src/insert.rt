@@ -41,8 +41,8 @@ pub fn has_face(arcs: &[ArcRow], xs: Links, i: usize) -> bool
     faced(arcs, lists::item(xs, i))
 }
 
-// Whether x is an arc, its follower w is none, and its next leads to one of the first n of these vertices.
-fn leads_among(arcs: &[ArcRow], x: u32, w: u32, at: &[u32; RING], n: usize) -> bool
+// An existing arc x whose follower w is absent, and whose next leads to a vertex of the perimeter: to one of the first n of these.
+fn leads_back(arcs: &[ArcRow], x: u32, w: u32, at: &[u32; RING], n: usize) -> bool
     ensures { λ r. ⌜ r ≡ (not (eqb x 0) && (eqb w 0 && (not (eqb (cell (now (arcs .entry)) x 2) 0) && has (take n (now (at .entry))) (cell (now (arcs .entry)) (cell (now (arcs .entry)) x 2) 1)))) ⌝ }
 {
     if x == 0 {
@@ -56,20 +56,6 @@ fn leads_among(arcs: &[ArcRow], x: u32, w: u32, at: &[u32; RING], n: usize) -> b
         return false;
     }
     lists::stands_from(at, n, 0, rows::cell6(arcs, y, 1))
-}
-
-// An existing arc whose follower is absent, and whose next leads to a vertex of the perimeter.
-pub fn leads_back(arcs: &[ArcRow], xs: Links, per: Links, i: usize) -> bool
-    ensures { λ r. ⌜ ((vs : Table) (ps : List (List Float)) (es fs : Table) (ks : List ℕ) → listOf xs ≡ arcsOf (now (arcs .entry)) (listOf per) → r ≡ Insert.leadsBack (mesh vs ps (now (arcs .entry)) es fs ks) (listOf per) i) ⌝ }
-{
-    let n = lists::size(per);
-    if i >= n {
-        return false;
-    }
-    let x = lists::item(xs, i);
-    let w = lists::item(xs, lists::place_after(n, i));
-    let at = per.at;
-    leads_among(arcs, x, w, &at, per.len)
 }
 
 // Whether some pair has either. xs are the arcs of the perimeter's pairs.
@@ -88,7 +74,7 @@ pub fn conflict_by(arcs: &[ArcRow], xs: Links, per: Links) -> bool
             return true;
         }
         let w = found[lists::place_after(n, i)];
-        if leads_among(arcs, x, w, &at, n) {
+        if leads_back(arcs, x, w, &at, n) {
             return true;
         }
         i += 1;

@@ -21,6 +21,7 @@ use Rattle.rules.specs.Insert.{facelessIn, edgesIn, newFace, putFace, listsOf}
 use Rattle.rules.proofs.Scan.{upTo-more}
 use Rattle.rules.proofs.Walks.{walk-none}
 use Rattle.rules.proofs.Places.{list-back}
+use Rattle.lists.proofs.Laws.{after-on}
 use Rattle.edges.proofs.Rings.{walk-length}
 use Rattle.pairs.specs.Pairs.{pairArc, arcsOf}
 use Rattle.pairs.proofs.Listed.{arcs-length}
@@ -84,13 +85,6 @@ upTo-same : (f g : ℕ → Table → Table) (n : ℕ) (t : Table) → ((i : ℕ)
 unfolding upTo
 upTo-same f g zero t h = refl
 upTo-same f g (suc n) t h = ap (f n) (upTo-same f g n t (λ i u l. h i u (omega arith))) ∙ h n (upTo g n t) (omega arith)
-
-pub after-on : (n i : ℕ) → i < n → after n i < n
-after-on n i l = go (ℕ-discrete (i + 1) n)
-  where
-    go : Dec (i + 1 ≡ n) → cond (eqb (i + 1) n) 0 (i + 1) < n
-    go (yes e) = rw (eq-eqb (i + 1) n e) (omega arith)
-    go (no ne) = rw (ne-eqb (i + 1) n ne) (omega arith)
 
 exteriors-same : (edges : Table) (rows lists : List (List ℕ)) (xs : List ℕ) (t : Table) → Taken rows lists (length xs) → exteriorBy edges rows xs t ≡ exteriorBy edges lists xs t
 unfolding exteriorBy

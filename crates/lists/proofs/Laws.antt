@@ -45,12 +45,15 @@ pub place-in : (l : Links) (n i : ℕ) → n ≡ length (listOf l) → i < n →
 place-in l n i e q = sym (getD-take n (l .at) i 0 q) ∙ ap (λ (o : List ℕ). getD o i 0) (list-taken l n e)
 
 -- the place after one on a ring is on it
-pub next-on : (n i j : ℕ) → i < n → j ≡ after n i → j < n
-next-on n i j l e = rw e (go (ℕ-discrete (i + 1) n))
+pub after-on : (n i : ℕ) → i < n → after n i < n
+after-on n i l = go (ℕ-discrete (i + 1) n)
   where
     go : Dec (i + 1 ≡ n) → after n i < n
     go (yes q) = rw (eq-eqb (i + 1) n q) (omega arith)
     go (no nq) = rw (ne-eqb (i + 1) n nq) (omega arith)
+
+pub next-on : (n i j : ℕ) → i < n → j ≡ after n i → j < n
+next-on n i j l e = rw e (after-on n i l)
 
 -- ---- what stands from a place on
 

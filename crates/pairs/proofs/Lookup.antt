@@ -16,6 +16,7 @@ use Rattle.rules.specs.declared.Links.{Links}
 use Rattle.rules.specs.Table.{Table, cell, has, after, rowLimit}
 use Rattle.rules.specs.Mesh.{joins, arcBetween, linksOf, listOf}
 use Rattle.tables.proofs.Scans.{into-found, into-none}
+use Rattle.lists.proofs.Laws.{after-on}
 use Rattle.pairs.specs.Pairs.{arcsOf, runsAt}
 use Rattle.pairs.specs.Near.{isMarked, Listing, AllFrom, leads, Least, lowerLink, LinkNoted}
 use Rattle.pairs.proofs.Filled.{some-link}
@@ -145,13 +146,6 @@ module _ (f t : List ℕ) (s d x : ℕ) (at₀ : List ℕ) where
     noted-leads es nd = noted-next (rw (eq-eqb s (getD f i 0) es, ne-eqb d (getD t i 0) nd))
 
 -- ---- all pairs
-
-pub after-on : (n i : ℕ) → i < n → after n i < n
-after-on n i l = go (ℕ-discrete (i + 1) n)
-  where
-    go : Dec (i + 1 ≡ n) → after n i < n
-    go (yes e) = rw (eq-eqb (i + 1) n e) (omega arith)
-    go (no ne) = rw (ne-eqb (i + 1) n ne) (omega arith)
 
 -- where they lead, by the array that holds the perimeter
 pub ends-are : (per : Links) (n : ℕ) (t : List ℕ) → n ≡ length (listOf per) → ((j : ℕ) → j < n → getD t j 0 ≡ getD (per .at) (after n j) 0) → (i : ℕ) → i < length (listOf per) → getD t i 0 ≡ to (listOf per) i

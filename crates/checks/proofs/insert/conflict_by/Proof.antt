@@ -64,7 +64,7 @@ face-at c vs ps es fs ks =
     let x = arc-at-place m (take (n .result) (a .per .at)) (a .xs) (n .result) (l .loop .i) (held l) (many l) (c .before .loop-test .taken) in
     face-of-arc m (take (n .result) (a .per .at)) (l .loop .i) (getD (a .xs .at) (l .loop .i) 0) (c .faced .result) x (c .faced .ensures)
 
-back-at : (c : tie.After-leads-among Inv-loop μ-loop) (vs : Table) (ps : List (List Float)) (es fs : Table) (ks : List ℕ) → let l = c .before .before .before .before .before .before in let n = l .before .before .before .before .size in let a = l .before .before .before .before .before .args in c .leads-among .result ≡ leadsBack (mesh vs ps (a .arcs .now) es fs ks) (take (n .result) (a .per .at)) (l .loop .i)
+back-at : (c : tie.After-leads-back Inv-loop μ-loop) (vs : Table) (ps : List (List Float)) (es fs : Table) (ks : List ℕ) → let l = c .before .before .before .before .before .before in let n = l .before .before .before .before .size in let a = l .before .before .before .before .before .args in c .leads-back .result ≡ leadsBack (mesh vs ps (a .arcs .now) es fs ks) (take (n .result) (a .per .at)) (l .loop .i)
 back-at c vs ps es fs ks =
     let l = c .before .before .before .before .before .before in
     let n = l .before .before .before .before .size in
@@ -74,7 +74,7 @@ back-at c vs ps es fs ks =
     let on : l .loop .i < n .result = c .before .before .before .before .before .loop-test .taken in
     let x = arc-at-place m (take (n .result) (a .per .at)) (a .xs) (n .result) (l .loop .i) (held l) (many l) on in
     let w = arc-at-place m (take (n .result) (a .per .at)) (a .xs) (n .result) (j .result) (held l) (many l) (next-on (n .result) (l .loop .i) (j .result) on (j .ensures)) in
-    back-of-arc m (take (n .result) (a .per .at)) (l .loop .i) (getD (a .xs .at) (l .loop .i) 0) (n .result) (j .result) (getD (a .xs .at) (j .result) 0) (c .leads-among .result) x (many l) (j .ensures) w (c .leads-among .ensures)
+    back-of-arc m (take (n .result) (a .per .at)) (l .loop .i) (getD (a .xs .at) (l .loop .i) 0) (n .result) (j .result) (getD (a .xs .at) (j .result) 0) (c .leads-back .result) x (many l) (j .ensures) w (c .leads-back .ensures)
 
 returns : tie.Need-returns Inv-loop μ-loop
 unfolding conflict
@@ -101,8 +101,8 @@ array-read-w c =
     let n = l .before .before .before .before .size in
     omega (arith, n .ensures, l .before .before .before .known-few .ensures, next-on (n .result) (l .loop .i) (c .place-after .result) (c .before .before .before .loop-test .taken) (c .place-after .ensures))
 
-leads-among-requires : tie.Need-leads-among-requires Inv-loop μ-loop
-leads-among-requires c κs = search needs
+leads-back-requires : tie.Need-leads-back-requires Inv-loop μ-loop
+leads-back-requires c κs = search needs
 
 returns-2 : tie.Need-returns-2 Inv-loop μ-loop
 unfolding conflict
@@ -154,7 +154,7 @@ conflict-by-spec =
     place-after-requires
     mul-w
     array-read-w
-    leads-among-requires
+    leads-back-requires
     returns-2
     add-i
     loop-less

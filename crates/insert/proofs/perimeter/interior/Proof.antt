@@ -5,10 +5,9 @@ use lib.ListN.{length, getD, take}
 use lib.Seq.{getD-take}
 use Rattle.rules.specs.Table.{upTo}
 use Rattle.rules.specs.Mesh.{listOf}
-use Rattle.lists.proofs.Laws.{list-taken}
+use Rattle.lists.proofs.Laws.{list-taken, after-on}
 use Rattle.insert.specs.Perimeter.{interiorBy}
 use Rattle.insert.proofs.Loops.{interiorIn, interior-more}
-use Rattle.insert.proofs.Rows.{after-on}
 use borrow.Author.Needs.{needs}
 use Rattle.insert.proofs.perimeter.interior.Statement.{statement}
 use Rattle.insert.proofs.perimeter.interior.Tie as tie

@@ -6,9 +6,9 @@ use lib.ListN.{length, getD, take}
 use lib.Seq.{getD-take}
 use Rattle.rules.specs.Table.{upTo}
 use Rattle.rules.specs.Mesh.{listOf}
-use Rattle.lists.proofs.Laws.{list-taken}
+use Rattle.lists.proofs.Laws.{list-taken, after-on}
 use Rattle.insert.specs.Perimeter.{exteriorBy}
-use Rattle.insert.proofs.Rows.{exteriorRow, row-more, after-on}
+use Rattle.insert.proofs.Rows.{exteriorRow, row-more}
 use borrow.Author.Needs.{needs}
 use Rattle.insert.proofs.taken.exterior.Statement.{statement}
 use Rattle.insert.proofs.taken.exterior.Tie as tie

@@ -6,7 +6,8 @@ use lib.ListN.{length, getD, length-set}
 use lib.Seq.{getD-set-same, getD-set-other}
 use borrow.Author.Count.{below-none, below-more}
 use Rattle.rules.specs.Table.{after}
-use Rattle.pairs.proofs.Lookup.{after-on, ends-are}
+use Rattle.lists.proofs.Laws.{after-on}
+use Rattle.pairs.proofs.Lookup.{ends-are}
 use borrow.Author.Needs.{needs}
 use Rattle.pairs.proofs.near.ends.Statement.{statement}
 use Rattle.pairs.proofs.near.ends.Tie as tie
