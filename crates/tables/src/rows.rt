@@ -1,6 +1,6 @@
-// Tables of numbers: a cell or a row by its link, the lowest unused row, counts of rows, and lookup by key or by two ends.
+// Tables of numbers: a cell or a row by its link, counts of rows, and lookup by key or by two ends.
 // A link is a row plus one and 0 is none. Reading through none, past the table or past the row gives 0; writing there changes nothing.
-// It carries document 01's "a new record takes the lowest unused row", and lookup by key in row tables ("What must change shape").
+// It carries lookup by key in row tables (document 01, "What must change shape").
 
 use rules::ArcRow;
 use rules::EdgeRow;
@@ -10,7 +10,7 @@ ghost use mathlib.Core.Bool.{not, _&&_};
 ghost use Prim.Native.Nat.{_-_};
 ghost use lib.ListN.{length};
 ghost use lib.Dec.{eqb};
-ghost use Rattle.rules.specs.Table.{cell, put, putRow, freeRow, firstRow, linkInto, count, used, unused};
+ghost use Rattle.rules.specs.Table.{cell, put, putRow, firstRow, linkInto, count, used, unused};
 ghost use Rattle.rules.specs.Mesh.{keyed, findKey, arcBetween, oppositeOf};
 
 // The largest table that has links to give.
@@ -185,55 +185,6 @@ pub fn put_row6(t: &mut [ArcRow], l: u32, row: ArcRow)
 }
 
 // ---- scans
-
-// The link of the lowest unused row, or 0 where every row is used.
-pub fn free2(t: &[VertexRow]) -> u32
-    ensures { λ r. ⌜ r ≡ freeRow (now (t .entry)) ⌝ }
-{
-    if t.len() > ROW_LIMIT {
-        return 0;
-    }
-    let mut i = 0;
-    while i < t.len() {
-        if t[i][0] == 0 {
-            return i as u32 + 1;
-        }
-        i += 1;
-    }
-    0
-}
-
-pub fn free3(t: &[EdgeRow]) -> u32
-    ensures { λ r. ⌜ r ≡ freeRow (now (t .entry)) ⌝ }
-{
-    if t.len() > ROW_LIMIT {
-        return 0;
-    }
-    let mut i = 0;
-    while i < t.len() {
-        if t[i][0] == 0 {
-            return i as u32 + 1;
-        }
-        i += 1;
-    }
-    0
-}
-
-pub fn free6(t: &[ArcRow]) -> u32
-    ensures { λ r. ⌜ r ≡ freeRow (now (t .entry)) ⌝ }
-{
-    if t.len() > ROW_LIMIT {
-        return 0;
-    }
-    let mut i = 0;
-    while i < t.len() {
-        if t[i][0] == 0 {
-            return i as u32 + 1;
-        }
-        i += 1;
-    }
-    0
-}
 
 // How many rows are unused, and of the arcs how many are used.
 pub fn count_free2(t: &[VertexRow]) -> usize

@@ -1,6 +1,7 @@
 // One line for one cell of a table, or for one lookup in it.
 
 use crate::say;
+use edges::free;
 use rules::ArcRow;
 use rules::EdgeRow;
 use rules::VertexRow;
@@ -50,4 +51,16 @@ pub fn arc_by_ends(arcs: &[ArcRow], a: u32, b: u32) {
 
 pub fn opposite(arcs: &[ArcRow], edges: &[EdgeRow], x: u32) {
     say::number_of(b"opposite of arc ", x, rows::opposite(arcs, edges, x));
+}
+
+pub fn lowest_vertex(vertices: &[VertexRow]) {
+    say::number(b"lowest unused vertex", free::free2(vertices, 0));
+}
+
+pub fn lowest_arc(arcs: &[ArcRow]) {
+    say::number(b"lowest unused arc", free::free6(arcs, 0));
+}
+
+pub fn lowest_face(faces: &[EdgeRow]) {
+    say::number(b"lowest unused face", free::free3(faces, 0));
 }

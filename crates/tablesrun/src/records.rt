@@ -114,9 +114,5 @@ fn taken_out(arcs: &mut [ArcRow], faces: &mut [FaceRow]) {
     face::remove_face(arcs, faces, 1);
     cells::face(arcs, 3);
     cells::next(arcs, 3);
-    lowest(faces);
-}
-
-fn lowest(faces: &[FaceRow]) {
-    say::number(b"lowest unused face", rows::free3(faces));
+    cells::lowest_face(faces);
 }

@@ -38,7 +38,7 @@ fn read(arcs: &[ArcRow]) {
     cells::next(arcs, 8);
     cells::next(arcs, 4294967295);
     say::number(b"cell 6 of arc 1", rows::cell6(arcs, 1, 6));
-    say::number(b"lowest unused arc", rows::free6(arcs));
+    cells::lowest_arc(arcs);
     say::amount(b"used arcs", rows::count_used6(arcs));
 }
 
@@ -86,6 +86,6 @@ fn by_key(vertices: &[VertexRow]) {
     cells::vertex_by_key(vertices, 4);
     cells::vertex_by_key(vertices, 3);
     cells::vertex_by_key(vertices, 4294967295);
-    say::number(b"lowest unused vertex", rows::free2(vertices));
+    cells::lowest_vertex(vertices);
     say::amount(b"unused vertices", rows::count_free2(vertices));
 }
