@@ -1,5 +1,5 @@
-/* Times the calls by themselves, at the largest tables, nearly full: a cloth of 62 x 62 panels, and apart from it four corners, two panels and a
- * triangle poked until a poke would break the mesh.
+/* Times the calls by themselves, at the largest tables, nearly full: a cloth of 60 x 60 panels, and apart from it four corners, two panels, a
+ * triangle poked until a poke would break the mesh, 64 corners, and two panels of 64 corners, the most that a panel can have.
  * Beside plexus (main.rs) each call finds its tables driven out of the near caches by plexus; here nothing runs between two calls but
  * putting the mesh back. Prints a table of lower quartiles of RUNS runs, in microseconds, and beside reading every cell once. */
 #include "ullarvesp.h"
@@ -10,7 +10,8 @@
 #include <time.h>
 
 #define RUNS 400
-#define WIDE 63u
+#define WIDE 61u
+#define MOST 64u
 
 /* The mesh, its two rooms, and the mesh as it is put back. */
 static ul_vertex vertices[4][UL_VERTEX_LIMIT];
@@ -93,8 +94,8 @@ static uint32_t corner(double x, double y, double z) {
     return ul_vertex_insert(UL_LENT(mesh), x, y, z).key;
 }
 
-static uint32_t panel(const uint32_t *corners) {
-    ul_reply reply = ul_face_insert(UL_LENT(mesh), 7, corners, 4);
+static uint32_t panel(const uint32_t *corners, size_t count) {
+    ul_reply reply = ul_face_insert(UL_LENT(mesh), 7, corners, count);
     if (reply.number != UL_DONE) exit(1);
     return reply.key;
 }
@@ -118,10 +119,14 @@ int main(void) {
     for (uint32_t y = 0; y + 1 < WIDE; y++)
         for (uint32_t x = 0; x + 1 < WIDE; x++) {
             uint32_t a = y * WIDE + x, corners[4] = {a, a + 1, a + 1 + WIDE, a + WIDE};
-            panel(corners);
+            panel(corners, 4);
         }
-    uint32_t below = panel(apart[1]), above = panel(apart[2]);
+    uint32_t below = panel(apart[1], 4), above = panel(apart[2], 4);
     uint32_t broken = would_break();
+    uint32_t rims[3][MOST];
+    for (uint32_t i = 0; i < 3; i++)
+        for (uint32_t j = 0; j < MOST; j++) rims[i][j] = corner(300 + j, j * j, i);
+    uint32_t low = panel(rims[1], MOST), high = panel(rims[2], MOST);
     copy(3, 0);
     memcpy(counters, mesh.counters, sizeof counters);
     for (int i = 0; i < RUNS; i++) {
@@ -131,7 +136,7 @@ int main(void) {
     }
     read_time = quartile();
 
-    uint32_t face = 31 * 62 + 31, first = 31 * WIDE + 31, across = first + WIDE + 1;
+    uint32_t face = 30 * 60 + 30, first = 30 * WIDE + 30, across = first + WIDE + 1;
     uint32_t taken[4] = {first, first + 1, across, first + WIDE};
     printf("The calls by themselves at 4096/8192/4096, %u vertices, %u edges, %u faces; read once %.0f\n\n", counters[0], counters[1],
            counters[2], read_time);
@@ -147,6 +152,12 @@ int main(void) {
     TIMED("arc bridge", ul_arc_bridge(UL_LENT(mesh), apart[1][1], apart[1][0], apart[2][1], apart[2][0]));
     TIMED("arc extrude, shift", ul_arc_extrude_shift(UL_LENT(mesh), apart[1][1], apart[1][0], 1, 2, 3));
     TIMED("face poke, would break", ul_face_poke(UL_LENT(mesh), broken, 200, 0, 1));
+    TIMED("face insert, 64 corners", ul_face_insert(UL_LENT(mesh), 7, rims[0], MOST));
+    TIMED("face remove, 64 corners", ul_face_remove(UL_LENT(mesh), low));
+    TIMED("face split, 64 corners", ul_face_split(UL_LENT(mesh), low, rims[1][0], rims[1][MOST / 2]));
+    TIMED("face poke, 64 corners", ul_face_poke(UL_LENT(mesh), low, 1, 2, 3));
+    TIMED("face bridge, 64 corners", ul_face_bridge(UL_LENT(mesh), low, high));
+    TIMED("face extrude, 64 corners", ul_face_extrude_shift(UL_LENT(mesh), low, 1, 2, 3));
     TIMED("arity", ul_face_arity(UL_SET(mesh.tables), mesh.counters, face));
     TIMED("soundness check", ul_check_sound(UL_SET(mesh.tables), mesh.counters));
     return 0;
