@@ -3,3 +3,4 @@ pub mod Scans
 pub mod Field
 pub mod Lists
 pub mod Exact
+pub mod ZeroRows

@@ -80,3 +80,12 @@ module _ {A : Type 0} where
   over-again s d h =
       let l : length s ≤ length (over s d) = omega (arith, over-length s d) in
       over-back (over s d) s l ∙ rw (over-front s d h) (take-at s (drop (length s) d) (length s) refl)
+
+  -- what stands there already need not be put there
+  pub fill-same : (n : ℕ) (v z : A) (d : List A) → n ≤ length d → ((k : ℕ) → k < n → getD d k z ≡ v) → d ≡ fill v n d
+  fill-same zero v z d l h = refl
+  fill-same (suc n) v z [] l h = absurd (not-suc-le-zero l)
+  fill-same (suc n) v z (x ∷ d) l h =
+      let first : x ≡ v = h 0 (omega arith) in
+      let rest : d ≡ fill v n d = fill-same n v z d (le-of-suc-le-suc l) (λ k q. h (suc k) (omega arith)) in
+      λ i. first i ∷ rest i

@@ -26,15 +26,15 @@ pub fn wide(x: u32) -> usize
 }
 
 // They say only how many cells a row has, which a slice of rows does not tell.
-fn known2(row: VertexRow)
+pub fn known2(row: VertexRow)
     ensures { λ _. ⌜ length row ≡ 2 ⌝ }
 {}
 
-fn known3(row: EdgeRow)
+pub fn known3(row: EdgeRow)
     ensures { λ _. ⌜ length row ≡ 3 ⌝ }
 {}
 
-fn known6(row: ArcRow)
+pub fn known6(row: ArcRow)
     ensures { λ _. ⌜ length row ≡ 6 ⌝ }
 {}
 

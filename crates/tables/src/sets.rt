@@ -2,6 +2,7 @@
 // It carries document 01's "work in lent room, copied over only when accepted", "Working room ends all zero", the limits of "Tables are
 // lent", and "it is too small if one of them has fewer rows than the mesh table of its kind".
 
+use crate::zeros;
 use rules::ArcRow;
 use rules::EdgeRow;
 use rules::FaceRow;
@@ -84,7 +85,7 @@ pub fn copy_positions(to: &mut [PositionRow], from: &[PositionRow])
 pub fn zero2(to: &mut [VertexRow])
     ensures { λ _. ⌜ now (to .exit) ≡ replicate (length (now (to .entry))) (0 ∷ 0 ∷ []) ⌝ }
 {
-    let mut i = 0;
+    let mut i = zeros::skip2(to);
     while i < to.len() {
         to[i] = [0; 2];
         i += 1;
@@ -94,7 +95,7 @@ pub fn zero2(to: &mut [VertexRow])
 pub fn zero3(to: &mut [EdgeRow])
     ensures { λ _. ⌜ now (to .exit) ≡ replicate (length (now (to .entry))) (0 ∷ 0 ∷ 0 ∷ []) ⌝ }
 {
-    let mut i = 0;
+    let mut i = zeros::skip3(to);
     while i < to.len() {
         to[i] = [0; 3];
         i += 1;
@@ -104,7 +105,7 @@ pub fn zero3(to: &mut [EdgeRow])
 pub fn zero6(to: &mut [ArcRow])
     ensures { λ _. ⌜ now (to .exit) ≡ replicate (length (now (to .entry))) (0 ∷ 0 ∷ 0 ∷ 0 ∷ 0 ∷ 0 ∷ []) ⌝ }
 {
-    let mut i = 0;
+    let mut i = zeros::skip6(to);
     while i < to.len() {
         to[i] = [0; 6];
         i += 1;

@@ -1,10 +1,10 @@
--- `tables::sets::zero2` meets its contract. The invariant: the first i rows are zero, and the rest is as it was. The measure is what is left of the table. Assumes nothing.
+-- `tables::sets::zero2` meets its contract. The invariant: the first i rows are zero, and the rest is as it was; at the start they were zero before. The measure is what is left of the table. Assumes nothing.
 use Prim.Native.Nat.{_≤_, _-_}
 use mathlib.Core.List.{[], _∷_}
-use mathlib.Core.Path.{_≡_, _∙_}
+use mathlib.Core.Path.{_≡_, refl, _∙_}
 use lib.ListN.{length, length-set}
 use borrow.Author.Needs.{needs}
-use Rattle.tables.proofs.Lists.{fill, fill-more, fill-all}
+use Rattle.tables.proofs.Lists.{fill, fill-more, fill-all, fill-same}
 use Rattle.tables.proofs.sets.zero2.Statement.{statement}
 use Rattle.tables.proofs.sets.zero2.Tie as tie
 
@@ -14,11 +14,17 @@ Inv-loop to₀ i₀ to i = (length to ≡ length to₀) × ((i ≤ length to₀)
 abbrev μ-loop : tie.MeasureT-loop
 μ-loop to₀ i₀ to i = length to₀ - i
 
-loop-holds : tie.Need-loop-holds Inv-loop μ-loop
-loop-holds c = search needs
+skip2-requires : tie.Need-skip2-requires Inv-loop μ-loop
+skip2-requires c κs = search needs
 
-mul-t3 : tie.Need-mul-t3 Inv-loop μ-loop
-mul-t3 c = search needs
+loop-holds : tie.Need-loop-holds Inv-loop μ-loop
+loop-holds c =
+    let a = c .before .before .args in
+    let z = c .skip2 .ensures in
+    (refl, (z .0, fill-same (c .skip2 .result) (0 ∷ 0 ∷ []) [] (a .to .now) (z .0) (λ k q. z .1 k (search needs) q)))
+
+mul-t5 : tie.Need-mul-t5 Inv-loop μ-loop
+mul-t5 c = search needs
 
 slice-set-from-to : tie.Need-slice-set-from-to Inv-loop μ-loop
 slice-set-from-to c = search needs
@@ -32,7 +38,7 @@ loop-less c = search needs
 loop-again : tie.Need-loop-again Inv-loop μ-loop
 loop-again c =
     let l = c .before in
-    let a = l .before .args in
+    let a = l .before .before .before .args in
     (simp length-set (search needs), (search needs, rw (l .loop .inv .1 .1) (fill-more (l .loop .i) (0 ∷ 0 ∷ []) (a .to .now) (search needs))))
 
 same-length : tie.Need-same-length Inv-loop μ-loop
@@ -41,7 +47,7 @@ same-length c = search needs
 returns : tie.Need-returns Inv-loop μ-loop
 returns c =
     let l = c .before in
-    let a = l .before .args in
+    let a = l .before .before .before .args in
     l .loop .inv .1 .1 ∙ fill-all (l .loop .i) (0 ∷ 0 ∷ []) (a .to .now) (search needs) (search needs)
 
 pub zero2-spec : {M : Type 1} → statement M
@@ -50,8 +56,9 @@ zero2-spec =
     (tie.spec
     Inv-loop
     μ-loop
+    skip2-requires
     loop-holds
-    mul-t3
+    mul-t5
     slice-set-from-to
     add-i
     loop-less

@@ -1,0 +1,29 @@
+-- `tables::zeros::zero_row2` meets its contract: the tests of its cells, one by one. Assumes nothing.
+use mathlib.Core.Bool.{Bool, _&&_}
+use lib.ListN.{getD}
+use lib.Dec.{eqb}
+use Rattle.tables.proofs.ZeroRows.{both, no-cell, cell-more, row-zero}
+use borrow.Author.Needs.{needs}
+use Rattle.tables.proofs.zeros.zero_row2.Statement.{statement}
+use Rattle.tables.proofs.zeros.zero_row2.Tie as tie
+
+known2-requires : tie.Need-known2-requires
+known2-requires c κs = search needs
+
+array-read-result : tie.Need-array-read-result
+array-read-result c = search needs
+
+array-read-result-2 : tie.Need-array-read-result-2
+array-read-result-2 c = search needs
+
+returns : tie.Need-returns
+returns c =
+    λ e.
+    let row = c .before .args .t1 in
+    let t0 : Bool = eqb (getD row 0 0) 0 in
+    let t1 : Bool = eqb (getD row 1 0) 0 in
+    let b1 = both t0 t1 e in
+    row-zero row 2 (c .known2 .ensures) (cell-more row 1 (cell-more row 0 (no-cell row) (b1 .0)) (b1 .1))
+
+pub zero-row2-spec : {M : Type 1} → statement M
+zero-row2-spec = tie.close (tie.spec known2-requires array-read-result array-read-result-2 returns)

@@ -1,0 +1,49 @@
+-- `tables::zeros::zero_row6` meets its contract: the tests of its cells, one by one. Assumes nothing.
+use mathlib.Core.Bool.{Bool, _&&_}
+use lib.ListN.{getD}
+use lib.Dec.{eqb}
+use Rattle.tables.proofs.ZeroRows.{both, no-cell, cell-more, row-zero}
+use borrow.Author.Needs.{needs}
+use Rattle.tables.proofs.zeros.zero_row6.Statement.{statement}
+use Rattle.tables.proofs.zeros.zero_row6.Tie as tie
+
+known6-requires : tie.Need-known6-requires
+known6-requires c κs = search needs
+
+array-read-result : tie.Need-array-read-result
+array-read-result c = search needs
+
+array-read-result-2 : tie.Need-array-read-result-2
+array-read-result-2 c = search needs
+
+array-read-result-3 : tie.Need-array-read-result-3
+array-read-result-3 c = search needs
+
+array-read-result-4 : tie.Need-array-read-result-4
+array-read-result-4 c = search needs
+
+array-read-result-5 : tie.Need-array-read-result-5
+array-read-result-5 c = search needs
+
+array-read-result-6 : tie.Need-array-read-result-6
+array-read-result-6 c = search needs
+
+returns : tie.Need-returns
+returns c =
+    λ e.
+    let row = c .before .args .t1 in
+    let t0 : Bool = eqb (getD row 0 0) 0 in
+    let t1 : Bool = eqb (getD row 1 0) 0 in
+    let t2 : Bool = eqb (getD row 2 0) 0 in
+    let t3 : Bool = eqb (getD row 3 0) 0 in
+    let t4 : Bool = eqb (getD row 4 0) 0 in
+    let t5 : Bool = eqb (getD row 5 0) 0 in
+    let b5 = both ((((t0 && t1) && t2) && t3) && t4) t5 e in
+    let b4 = both (((t0 && t1) && t2) && t3) t4 (b5 .0) in
+    let b3 = both ((t0 && t1) && t2) t3 (b4 .0) in
+    let b2 = both (t0 && t1) t2 (b3 .0) in
+    let b1 = both t0 t1 (b2 .0) in
+    row-zero row 6 (c .known6 .ensures) (cell-more row 5 (cell-more row 4 (cell-more row 3 (cell-more row 2 (cell-more row 1 (cell-more row 0 (no-cell row) (b1 .0)) (b1 .1)) (b2 .1)) (b3 .1)) (b4 .1)) (b5 .1))
+
+pub zero-row6-spec : {M : Type 1} → statement M
+zero-row6-spec = tie.close (tie.spec known6-requires array-read-result array-read-result-2 array-read-result-3 array-read-result-4 array-read-result-5 array-read-result-6 returns)
