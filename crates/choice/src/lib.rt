@@ -20,6 +20,7 @@ ghost use Rattle.rules.specs.Table.{Table};
 ghost use Rattle.rules.specs.Mesh.{mesh};
 ghost use Rattle.rules.specs.Step.{step};
 ghost use Rattle.rules.specs.Call as Call;
+ghost use Rattle.edits.specs.Places.{Kept};
 
 fn vertex_insert(
     vertices: &mut [VertexRow],
@@ -27,7 +28,7 @@ fn vertex_insert(
     counters: &mut [u32; 3],
     position: Position,
 ) -> Answer
-    ensures { λ r. ⌜ ((a e f : Table) (ks : List ℕ) → step (mesh (now (vertices .exit)) (now (positions .exit)) a e f (now (counters .exit))) r ≡ Call.work (mesh (now (vertices .entry)) (now (positions .entry)) a e f (now (counters .entry))) (VertexInsert position) ks) ⌝ }
+    ensures { λ r. ⌜ ((a e f : Table) (ks : List ℕ) → step (mesh (now (vertices .exit)) (now (positions .exit)) a e f (now (counters .exit))) r ≡ Call.work (mesh (now (vertices .entry)) (now (positions .entry)) a e f (now (counters .entry))) (VertexInsert position) ks) × Kept (now (vertices .entry)) (now (positions .entry)) (now (positions .exit)) ⌝ }
 {
     let key = counters[0];
     edges::vertex::new_vertex(vertices, positions, counters, 0, position);
@@ -121,7 +122,7 @@ fn face_poke(
     position: Position,
 ) -> Answer
     requires { ⌜ (length (now past) ≡ length (now arcs)) × (length (now pastedges) ≡ length (now edges)) ⌝ }
-    ensures { λ r. ⌜ ((ks : List ℕ) → step (mesh (now (vertices .exit)) (now (positions .exit)) (now (arcs .exit)) (now (edges .exit)) (now (faces .exit)) (now (counters .exit))) r ≡ Call.work (mesh (now (vertices .entry)) (now (positions .entry)) (now (arcs .entry)) (now (edges .entry)) (now (faces .entry)) (now (counters .entry))) (FacePoke face position) ks) ⌝ }
+    ensures { λ r. ⌜ ((ks : List ℕ) → step (mesh (now (vertices .exit)) (now (positions .exit)) (now (arcs .exit)) (now (edges .exit)) (now (faces .exit)) (now (counters .exit))) r ≡ Call.work (mesh (now (vertices .entry)) (now (positions .entry)) (now (arcs .entry)) (now (edges .entry)) (now (faces .entry)) (now (counters .entry))) (FacePoke face position) ks) × Kept (now (vertices .entry)) (now (positions .entry)) (now (positions .exit)) ⌝ }
 {
     let f = rows::find_key3(faces, face);
     poke::poke_work(
@@ -180,7 +181,7 @@ fn face_extrude(
     by: Move,
 ) -> Answer
     requires { ⌜ (length (now past) ≡ length (now arcs)) × (length (now pastedges) ≡ length (now edges)) ⌝ }
-    ensures { λ r. ⌜ ((ks : List ℕ) → step (mesh (now (vertices .exit)) (now (positions .exit)) (now (arcs .exit)) (now (edges .exit)) (now (faces .exit)) (now (counters .exit))) r ≡ Call.work (mesh (now (vertices .entry)) (now (positions .entry)) (now (arcs .entry)) (now (edges .entry)) (now (faces .entry)) (now (counters .entry))) (FaceExtrude face by) ks) ⌝ }
+    ensures { λ r. ⌜ ((ks : List ℕ) → step (mesh (now (vertices .exit)) (now (positions .exit)) (now (arcs .exit)) (now (edges .exit)) (now (faces .exit)) (now (counters .exit))) r ≡ Call.work (mesh (now (vertices .entry)) (now (positions .entry)) (now (arcs .entry)) (now (edges .entry)) (now (faces .entry)) (now (counters .entry))) (FaceExtrude face by) ks) × Kept (now (vertices .entry)) (now (positions .entry)) (now (positions .exit)) ⌝ }
 {
     let f = rows::find_key3(faces, face);
     extrude::extrude_work(
@@ -240,7 +241,7 @@ fn arc_extrude(
     by: Move,
 ) -> Answer
     requires { ⌜ (length (now past) ≡ length (now arcs)) × (length (now pastedges) ≡ length (now edges)) ⌝ }
-    ensures { λ r. ⌜ ((ks : List ℕ) → step (mesh (now (vertices .exit)) (now (positions .exit)) (now (arcs .exit)) (now (edges .exit)) (now (faces .exit)) (now (counters .exit))) r ≡ Call.work (mesh (now (vertices .entry)) (now (positions .entry)) (now (arcs .entry)) (now (edges .entry)) (now (faces .entry)) (now (counters .entry))) (ArcExtrude s d by) ks) ⌝ }
+    ensures { λ r. ⌜ ((ks : List ℕ) → step (mesh (now (vertices .exit)) (now (positions .exit)) (now (arcs .exit)) (now (edges .exit)) (now (faces .exit)) (now (counters .exit))) r ≡ Call.work (mesh (now (vertices .entry)) (now (positions .entry)) (now (arcs .entry)) (now (edges .entry)) (now (faces .entry)) (now (counters .entry))) (ArcExtrude s d by) ks) × Kept (now (vertices .entry)) (now (positions .entry)) (now (positions .exit)) ⌝ }
 {
     let x = checks::call::arc_by_keys(vertices, arcs, s, d);
     edits::arc::arc_extrude_work(
@@ -257,7 +258,7 @@ fn arc_extrude(
     )
 }
 
-// The edit that is chosen. A face insert has at most 64 keys.
+// The edit that is chosen. A face insert has at most 64 keys. Vertices that were there keep their places.
 pub fn work(
     vertices: &mut [VertexRow],
     positions: &mut [PositionRow],
@@ -272,7 +273,7 @@ pub fn work(
 ) -> Answer
     requires { ⌜ (length (now past) ≡ length (now arcs)) × (length (now pastedges) ≡ length (now edges)) ⌝ }
     requires { ⌜ ((mark : ℕ) → edit ≡ FaceInsert mark → length (now keys) ≤ 64) ⌝ }
-    ensures { λ r. ⌜ step (mesh (now (vertices .exit)) (now (positions .exit)) (now (arcs .exit)) (now (edges .exit)) (now (faces .exit)) (now (counters .exit))) r ≡ Call.work (mesh (now (vertices .entry)) (now (positions .entry)) (now (arcs .entry)) (now (edges .entry)) (now (faces .entry)) (now (counters .entry))) edit (now (keys .entry)) ⌝ }
+    ensures { λ r. ⌜ (step (mesh (now (vertices .exit)) (now (positions .exit)) (now (arcs .exit)) (now (edges .exit)) (now (faces .exit)) (now (counters .exit))) r ≡ Call.work (mesh (now (vertices .entry)) (now (positions .entry)) (now (arcs .entry)) (now (edges .entry)) (now (faces .entry)) (now (counters .entry))) edit (now (keys .entry))) × Kept (now (vertices .entry)) (now (positions .entry)) (now (positions .exit)) ⌝ }
 {
     match edit {
         Edit::VertexInsert(position) => vertex_insert(vertices, positions, counters, position),

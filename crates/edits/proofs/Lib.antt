@@ -3,3 +3,4 @@ pub mod Inserts
 pub mod Steps
 pub mod Whole
 pub mod Known
+pub mod Places

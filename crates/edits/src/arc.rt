@@ -29,6 +29,7 @@ ghost use Rattle.rules.specs.Extrude.{arcExtrudeWork};
 ghost use Rattle.checks.specs.Between.{oneOf, otherOf};
 ghost use Rattle.edits.specs.Each.{joinedBy};
 ghost use Rattle.edits.specs.Known.{Known};
+ghost use Rattle.edits.specs.Places.{Kept};
 
 // The mark of a face that bridges.
 const NO_MARK: u32 = 0;
@@ -156,6 +157,7 @@ fn joined(
     )
 }
 
+// Vertices that were there keep their places.
 pub fn arc_extrude_work(
     vertices: &mut [VertexRow],
     positions: &mut [PositionRow],
@@ -169,7 +171,7 @@ pub fn arc_extrude_work(
     by: Move,
 ) -> Answer
     requires { ⌜ (length (now past) ≡ length (now arcs)) × (length (now pastedges) ≡ length (now edges)) ⌝ }
-    ensures { λ r. ⌜ step (mesh (now (vertices .exit)) (now (positions .exit)) (now (arcs .exit)) (now (edges .exit)) (now (faces .exit)) (now (counters .exit))) r ≡ arcExtrudeWork (mesh (now (vertices .entry)) (now (positions .entry)) (now (arcs .entry)) (now (edges .entry)) (now (faces .entry)) (now (counters .entry))) x by ⌝ }
+    ensures { λ r. ⌜ (step (mesh (now (vertices .exit)) (now (positions .exit)) (now (arcs .exit)) (now (edges .exit)) (now (faces .exit)) (now (counters .exit))) r ≡ arcExtrudeWork (mesh (now (vertices .entry)) (now (positions .entry)) (now (arcs .entry)) (now (edges .entry)) (now (faces .entry)) (now (counters .entry))) x by) × Kept (now (vertices .entry)) (now (positions .entry)) (now (positions .exit)) ⌝ }
 {
     let b = rows::cell6(arcs, x, 1);
     let a = rows::cell6(arcs, x, 0);

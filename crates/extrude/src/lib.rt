@@ -31,6 +31,7 @@ ghost use Rattle.rules.specs.Insert.{insertFace};
 ghost use Rattle.rules.specs.Extrude.{copies, wall, extrudeWork};
 ghost use Rattle.edits.specs.Each.{eachIn};
 ghost use Rattle.edits.specs.Known.{Known};
+ghost use Rattle.edits.specs.Places.{Kept, Added};
 
 // Moved copies of the vertices, made in order: their links.
 fn copies_in(
@@ -40,7 +41,7 @@ fn copies_in(
     by: Move,
     vs: Links,
 ) -> Links
-    ensures { λ r. ⌜ ((a e f : Table) → record { tables = mesh (now (vertices .exit)) (now (positions .exit)) a e f (now (counters .exit)); links = listOf r } ≡ copies (mesh (now (vertices .entry)) (now (positions .entry)) a e f (now (counters .entry))) by (listOf vs)) ⌝ }
+    ensures { λ r. ⌜ ((a e f : Table) → record { tables = mesh (now (vertices .exit)) (now (positions .exit)) a e f (now (counters .exit)); links = listOf r } ≡ copies (mesh (now (vertices .entry)) (now (positions .entry)) a e f (now (counters .entry))) by (listOf vs)) × Added (now (vertices .entry)) (now (positions .entry)) (now (vertices .exit)) (now (positions .exit)) ⌝ }
 {
     let n = lists::size(vs);
     lists::known_few(vs);
@@ -169,6 +170,7 @@ fn top_and_walls(
     )
 }
 
+// Vertices that were there keep their places.
 pub fn extrude_work(
     vertices: &mut [VertexRow],
     positions: &mut [PositionRow],
@@ -182,7 +184,7 @@ pub fn extrude_work(
     by: Move,
 ) -> Answer
     requires { ⌜ (length (now past) ≡ length (now arcs)) × (length (now pastedges) ≡ length (now edges)) ⌝ }
-    ensures { λ r. ⌜ step (mesh (now (vertices .exit)) (now (positions .exit)) (now (arcs .exit)) (now (edges .exit)) (now (faces .exit)) (now (counters .exit))) r ≡ extrudeWork (mesh (now (vertices .entry)) (now (positions .entry)) (now (arcs .entry)) (now (edges .entry)) (now (faces .entry)) (now (counters .entry))) f by ⌝ }
+    ensures { λ r. ⌜ (step (mesh (now (vertices .exit)) (now (positions .exit)) (now (arcs .exit)) (now (edges .exit)) (now (faces .exit)) (now (counters .exit))) r ≡ extrudeWork (mesh (now (vertices .entry)) (now (positions .entry)) (now (arcs .entry)) (now (edges .entry)) (now (faces .entry)) (now (counters .entry))) f by) × Kept (now (vertices .entry)) (now (positions .entry)) (now (positions .exit)) ⌝ }
 {
     let vs = checks::rings::vertices_of(arcs, faces, f);
     let key = counters[2];

@@ -2,6 +2,7 @@
 // moved coordinates; 7; the Rust's refusals in mid-edit; 8", and "Working room ends all zero, accepted or not; answer 1 alone leaves it
 // untouched."
 
+use crate::places;
 use order::decide;
 use order::rooms;
 use order::settle;
@@ -17,6 +18,7 @@ use rules::VertexRow;
 use tables::answers;
 use tables::sets;
 ghost use mathlib.Core.Path.{_≡_};
+ghost use mathlib.Core.List.{[]};
 ghost use lib.ListN.{length};
 ghost use Rattle.rules.specs.Mesh.{mesh, room};
 ghost use mathlib.Core.Bool.{true};
@@ -26,7 +28,27 @@ ghost use Rattle.rules.specs.Sound.{sound};
 ghost use Rattle.rules.specs.Call.{work, worked, decided, called, outcome};
 ghost use Rattle.order.specs.Transaction.{left, over, SameSize, Fits};
 
-// The edit in room that is as long as the mesh, and what is settled.
+// The vertices, arcs, edges and faces copied into room that is as long. Positions are not copied: an edit works on them in place.
+fn copy_in(
+    v: &mut [VertexRow],
+    a: &mut [ArcRow],
+    e: &mut [EdgeRow],
+    f: &mut [FaceRow],
+    vertices: &[VertexRow],
+    arcs: &[ArcRow],
+    edges: &[EdgeRow],
+    faces: &[FaceRow],
+)
+    requires { ⌜ SameSize (mesh (now vertices) [] (now arcs) (now edges) (now faces) []) (mesh (now v) [] (now a) (now e) (now f) []) ⌝ }
+    ensures { λ _. ⌜ mesh (now (v .exit)) [] (now (a .exit)) (now (e .exit)) (now (f .exit)) [] ≡ mesh (now (vertices .entry)) [] (now (arcs .entry)) (now (edges .entry)) (now (faces .entry)) [] ⌝ }
+{
+    sets::copy2(v, vertices);
+    sets::copy6(a, arcs);
+    sets::copy3(e, edges);
+    sets::copy3(f, faces);
+}
+
+// The edit in room that is as long as the mesh, and what is settled. Where it is refused, the positions are put back.
 fn work_in_room(
     vertices: &mut [VertexRow],
     positions: &mut [PositionRow],
@@ -35,7 +57,6 @@ fn work_in_room(
     faces: &mut [FaceRow],
     counters: &mut [u32; 3],
     v: &mut [VertexRow],
-    p: &mut [PositionRow],
     a: &mut [ArcRow],
     e: &mut [EdgeRow],
     f: &mut [FaceRow],
@@ -45,15 +66,16 @@ fn work_in_room(
     keys: &[u32],
 ) -> Answer
     requires { ⌜ sound (mesh (now vertices) (now positions) (now arcs) (now edges) (now faces) (now counters)) ≡ true ⌝ }
-    requires { ⌜ SameSize (mesh (now vertices) (now positions) (now arcs) (now edges) (now faces) (now counters)) (mesh (now v) (now p) (now a) (now e) (now f) (now counters)) ⌝ }
+    requires { ⌜ SameSize (mesh (now vertices) [] (now arcs) (now edges) (now faces) []) (mesh (now v) [] (now a) (now e) (now f) []) ⌝ }
     requires { ⌜ (length (now past) ≡ length (now arcs)) × (length (now pastedges) ≡ length (now edges)) ⌝ }
     requires { ⌜ ((mark : ℕ) → edit ≡ FaceInsert mark → length (now keys) ≤ 64) ⌝ }
     ensures { λ r. ⌜ left r (mesh (now (vertices .exit)) (now (positions .exit)) (now (arcs .exit)) (now (edges .exit)) (now (faces .exit)) (now (counters .exit))) ≡ over (mesh (now (vertices .entry)) (now (positions .entry)) (now (arcs .entry)) (now (edges .entry)) (now (faces .entry)) (now (counters .entry))) (worked (work (mesh (now (vertices .entry)) (now (positions .entry)) (now (arcs .entry)) (now (edges .entry)) (now (faces .entry)) (now (counters .entry))) edit (now (keys .entry)))) ⌝ }
 {
-    sets::copy_set(v, p, a, e, f, vertices, positions, arcs, edges, faces);
+    places::known_exact(positions);
+    copy_in(v, a, e, f, vertices, arcs, edges, faces);
     let mut k = *counters;
-    let told = choice::work(v, p, a, e, f, &mut k, past, pastedges, edit, keys);
-    settle::settle(
+    let told = choice::work(v, positions, a, e, f, &mut k, past, pastedges, edit, keys);
+    let answer = settle::settle(
         vertices,
         positions,
         arcs,
@@ -61,13 +83,17 @@ fn work_in_room(
         faces,
         counters,
         v,
-        p,
         a,
         e,
         f,
         k,
         told,
-    )
+    );
+    if answers::accepted(answer) {
+        return answer;
+    }
+    places::put_back(vertices, positions);
+    answer
 }
 
 // Says only that there are three.
@@ -84,7 +110,6 @@ fn perform(
     faces: &mut [FaceRow],
     counters: &mut [u32; 3],
     v: &mut [VertexRow],
-    p: &mut [PositionRow],
     a: &mut [ArcRow],
     e: &mut [EdgeRow],
     f: &mut [FaceRow],
@@ -94,7 +119,7 @@ fn perform(
     keys: &[u32],
 ) -> Answer
     requires { ⌜ sound (mesh (now vertices) (now positions) (now arcs) (now edges) (now faces) (now counters)) ≡ true ⌝ }
-    requires { ⌜ SameSize (mesh (now vertices) (now positions) (now arcs) (now edges) (now faces) (now counters)) (mesh (now v) (now p) (now a) (now e) (now f) (now counters)) ⌝ }
+    requires { ⌜ SameSize (mesh (now vertices) [] (now arcs) (now edges) (now faces) []) (mesh (now v) [] (now a) (now e) (now f) []) ⌝ }
     requires { ⌜ (length (now past) ≡ length (now arcs)) × (length (now pastedges) ≡ length (now edges)) ⌝ }
     ensures { λ r. ⌜ left r (mesh (now (vertices .exit)) (now (positions .exit)) (now (arcs .exit)) (now (edges .exit)) (now (faces .exit)) (now (counters .exit))) ≡ over (mesh (now (vertices .entry)) (now (positions .entry)) (now (arcs .entry)) (now (edges .entry)) (now (faces .entry)) (now (counters .entry))) (decided (mesh (now (vertices .entry)) (now (positions .entry)) (now (arcs .entry)) (now (edges .entry)) (now (faces .entry)) (now (counters .entry))) edit (now (keys .entry))) ⌝ }
 {
@@ -134,7 +159,6 @@ fn perform(
         faces,
         counters,
         v,
-        p,
         a,
         e,
         f,
@@ -154,7 +178,6 @@ fn perform_in_parts(
     faces: &mut [FaceRow],
     counters: &mut [u32; 3],
     v: &mut [VertexRow],
-    p: &mut [PositionRow],
     a: &mut [ArcRow],
     e: &mut [EdgeRow],
     f: &mut [FaceRow],
@@ -164,11 +187,10 @@ fn perform_in_parts(
     keys: &[u32],
 ) -> Answer
     requires { ⌜ sound (mesh (now vertices) (now positions) (now arcs) (now edges) (now faces) (now counters)) ≡ true ⌝ }
-    requires { ⌜ Fits (mesh (now vertices) (now positions) (now arcs) (now edges) (now faces) (now counters)) (room (now v) (now p) (now a) (now e) (now f)) (now past) (now pastedges) ⌝ }
+    requires { ⌜ Fits (mesh (now vertices) [] (now arcs) (now edges) (now faces) []) (room (now v) [] (now a) (now e) (now f)) (now past) (now pastedges) ⌝ }
     ensures { λ r. ⌜ left r (mesh (now (vertices .exit)) (now (positions .exit)) (now (arcs .exit)) (now (edges .exit)) (now (faces .exit)) (now (counters .exit))) ≡ over (mesh (now (vertices .entry)) (now (positions .entry)) (now (arcs .entry)) (now (edges .entry)) (now (faces .entry)) (now (counters .entry))) (decided (mesh (now (vertices .entry)) (now (positions .entry)) (now (arcs .entry)) (now (edges .entry)) (now (faces .entry)) (now (counters .entry))) edit (now (keys .entry))) ⌝ }
 {
     let nv = vertices.len();
-    let np = positions.len();
     let na = arcs.len();
     let ne = edges.len();
     let nf = faces.len();
@@ -180,7 +202,6 @@ fn perform_in_parts(
         faces,
         counters,
         &mut v[0..nv],
-        &mut p[0..np],
         &mut a[0..na],
         &mut e[0..ne],
         &mut f[0..nf],
@@ -243,7 +264,6 @@ pub fn change(
         faces,
         counters,
         v1,
-        p1,
         a1,
         e1,
         f1,

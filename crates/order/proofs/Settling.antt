@@ -43,10 +43,10 @@ unfolding setOver
 copied s d r z e =
     e ∙ (λ i. room (over-same (s .vertices) (d .vertices) (sym (z .vertices)) i) (over-same (s .positions) (d .positions) (sym (z .positions)) i) (over-same (s .arcs) (d .arcs) (sym (z .arcs)) i) (over-same (s .edges) (d .edges) (sym (z .edges)) i) (over-same (s .faces) (d .faces) (sym (z .faces)) i))
 
--- the same where the arcs and the edges are already those of the set
-pub copied-back : (s d : Mesh) (v : Table) (p : List (List Float)) (a e f : Table) → SameSize d s → v ≡ over (s .vertices) (d .vertices) → p ≡ over (s .positions) (d .positions) → a ≡ s .arcs → e ≡ s .edges → f ≡ over (s .faces) (d .faces) → room v p a e f ≡ roomOf s
-copied-back s d v p a e f z hv hp ha he hf i =
-    room ((hv ∙ over-same (s .vertices) (d .vertices) (sym (z .vertices))) i) ((hp ∙ over-same (s .positions) (d .positions) (sym (z .positions))) i) (ha i) (he i) ((hf ∙ over-same (s .faces) (d .faces) (sym (z .faces))) i)
+-- the same of all but the positions, where the arcs and the edges are already those of the set
+pub copied-back : (s d : Mesh) (v a e f : Table) → SameSize d s → v ≡ over (s .vertices) (d .vertices) → a ≡ s .arcs → e ≡ s .edges → f ≡ over (s .faces) (d .faces) → (ps : List (List Float)) → room v ps a e f ≡ room (s .vertices) ps (s .arcs) (s .edges) (s .faces)
+copied-back s d v a e f z hv ha he hf ps i =
+    room ((hv ∙ over-same (s .vertices) (d .vertices) (sym (z .vertices))) i) ps (ha i) (he i) ((hf ∙ over-same (s .faces) (d .faces) (sym (z .faces))) i)
 
 -- a refused step leaves the mesh, an accepted one its own tables
 pub over-refused : (m : Mesh) (s : Step) → accepted (s .answer) ≡ false → left (s .answer) m ≡ T.over m s

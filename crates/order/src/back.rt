@@ -1,17 +1,17 @@
 // The room copied back over the mesh: of the arcs and of the edges only the rows that have changed, where they are listed. Document 01: "work
-// in lent room, copied over only when accepted".
+// in lent room, copied over only when accepted". The positions are not copied, since an edit works on them in place.
 
 use rules::ArcRow;
 use rules::EdgeRow;
 use rules::FaceRow;
-use rules::PositionRow;
 use rules::VertexRow;
 use since::changes;
 use since::changes::CHANGED;
 use tables::sets;
 ghost use mathlib.Core.Path.{_≡_};
-ghost use mathlib.Core.List.{[]};
+ghost use mathlib.Core.List.{List, []};
 ghost use lib.ListN.{length};
+ghost use lib.Ieee.{Float};
 ghost use Rattle.rules.specs.Mesh.{mesh, room};
 ghost use Rattle.since.specs.Changes.{Listed};
 ghost use Rattle.order.specs.Transaction.{SameSize};
@@ -39,15 +39,13 @@ fn back3(to: &mut [EdgeRow], from: &[EdgeRow], changed: &[u32; CHANGED], n: usiz
     changes::copy_rows3(to, from, changed, n);
 }
 
-// The room is v, p, a, e, f; of the arcs n rows are listed, of the edges m.
+// The room is v, a, e, f; of the arcs n rows are listed, of the edges m.
 pub fn copy_back(
     vertices: &mut [VertexRow],
-    positions: &mut [PositionRow],
     arcs: &mut [ArcRow],
     edges: &mut [EdgeRow],
     faces: &mut [FaceRow],
     v: &[VertexRow],
-    p: &[PositionRow],
     a: &[ArcRow],
     e: &[EdgeRow],
     f: &[FaceRow],
@@ -56,12 +54,11 @@ pub fn copy_back(
     changed_edges: &[u32; CHANGED],
     m: usize,
 )
-    requires { ⌜ SameSize (mesh (now vertices) (now positions) (now arcs) (now edges) (now faces) []) (mesh (now v) (now p) (now a) (now e) (now f) []) ⌝ }
+    requires { ⌜ SameSize (mesh (now vertices) [] (now arcs) (now edges) (now faces) []) (mesh (now v) [] (now a) (now e) (now f) []) ⌝ }
     requires { ⌜ Listed (now «changed_arcs») n (now arcs) (now a) × Listed (now «changed_edges») m (now edges) (now e) ⌝ }
-    ensures { λ _. ⌜ room (now (vertices .exit)) (now (positions .exit)) (now (arcs .exit)) (now (edges .exit)) (now (faces .exit)) ≡ room (now (v .entry)) (now (p .entry)) (now (a .entry)) (now (e .entry)) (now (f .entry)) ⌝ }
+    ensures { λ _. ⌜ ((ps : List (List Float)) → room (now (vertices .exit)) ps (now (arcs .exit)) (now (edges .exit)) (now (faces .exit)) ≡ room (now (v .entry)) ps (now (a .entry)) (now (e .entry)) (now (f .entry))) ⌝ }
 {
     sets::copy2(vertices, v);
-    sets::copy_positions(positions, p);
     back6(arcs, a, changed_arcs, n);
     back3(edges, e, changed_edges, m);
     sets::copy3(faces, f);

@@ -1,6 +1,6 @@
 // What is settled when the work is done in room: a refusal in mid-edit, 8 if the result would not be sound, else the room is copied over the
 // mesh and the counters are set. Document 01: "work in lent room, copied over only when accepted", "Every refusal .. changes no mesh table and
-// no counter."
+// no counter." The positions are not copied, since an edit works on them in place; where it is refused, the caller puts them back.
 
 use crate::back;
 use rules::Answer;
@@ -17,10 +17,9 @@ use tables::answers;
 ghost use mathlib.Core.Path.{_≡_};
 ghost use Rattle.rules.specs.Mesh.{mesh};
 ghost use Rattle.rules.specs.Step.{step};
-ghost use mathlib.Core.Bool.{true};
-ghost use Rattle.rules.specs.Sound.{sound};
 ghost use Rattle.rules.specs.Call.{worked};
 ghost use Rattle.since.specs.Changes.{Listed};
+ghost use Rattle.since.specs.Were.{WereSound};
 ghost use Rattle.order.specs.Transaction.{left, over, SameSize, keepsSound};
 
 // Whether an edit is one that refuses nothing in mid-edit and always leaves a sound mesh, so that it needs no room and nothing is to be settled.
@@ -47,12 +46,12 @@ struct Verdict {
     edges: usize,
 }
 
-// What the work told, or 8 where the tables that it leaves are not sound. Those from v to k are as they were, and sound.
+// What the work told, or 8 where the tables that it leaves are not sound. Those from v to k are as they were, and were sound with the positions
+// of then.
 fn judged(
     changed_arcs: &mut [u32; CHANGED],
     changed_edges: &mut [u32; CHANGED],
     v: &[VertexRow],
-    p: &[PositionRow],
     a: &[ArcRow],
     e: &[EdgeRow],
     f: &[FaceRow],
@@ -65,7 +64,7 @@ fn judged(
     counters: &[u32; 3],
     told: Answer,
 ) -> Verdict
-    requires { ⌜ sound (mesh (now v) (now p) (now a) (now e) (now f) (now k)) ≡ true ⌝ }
+    requires { ⌜ WereSound (now v) (now positions) (now a) (now e) (now f) (now k) ⌝ }
     ensures { λ r. ⌜ (r .answer ≡ worked (step (mesh (now (vertices .entry)) (now (positions .entry)) (now (arcs .entry)) (now (edges .entry)) (now (faces .entry)) (now (counters .entry))) told) .answer) × Listed (now («changed_arcs» .exit)) (r .arcs) (now (a .entry)) (now (arcs .entry)) × Listed (now («changed_edges» .exit)) (r .edges) (now (e .entry)) (now (edges .entry)) ⌝ }
 {
     if !answers::accepted(told) {
@@ -79,7 +78,6 @@ fn judged(
         changed_arcs,
         changed_edges,
         v,
-        p,
         a,
         e,
         f,
@@ -105,25 +103,24 @@ fn judged(
     }
 }
 
-// The mesh, and in room what the work has made of it.
+// The mesh, and in room what the work has made of it; the positions are already the work's.
 pub fn settle(
     vertices: &mut [VertexRow],
-    positions: &mut [PositionRow],
+    positions: &[PositionRow],
     arcs: &mut [ArcRow],
     edges: &mut [EdgeRow],
     faces: &mut [FaceRow],
     counters: &mut [u32; 3],
     v: &[VertexRow],
-    p: &[PositionRow],
     a: &[ArcRow],
     e: &[EdgeRow],
     f: &[FaceRow],
     k: [u32; 3],
     told: Answer,
 ) -> Answer
-    requires { ⌜ sound (mesh (now vertices) (now positions) (now arcs) (now edges) (now faces) (now counters)) ≡ true ⌝ }
-    requires { ⌜ SameSize (mesh (now vertices) (now positions) (now arcs) (now edges) (now faces) (now counters)) (mesh (now v) (now p) (now a) (now e) (now f) k) ⌝ }
-    ensures { λ r. ⌜ left r (mesh (now (vertices .exit)) (now (positions .exit)) (now (arcs .exit)) (now (edges .exit)) (now (faces .exit)) (now (counters .exit))) ≡ over (mesh (now (vertices .entry)) (now (positions .entry)) (now (arcs .entry)) (now (edges .entry)) (now (faces .entry)) (now (counters .entry))) (worked (step (mesh (now (v .entry)) (now (p .entry)) (now (a .entry)) (now (e .entry)) (now (f .entry)) k) told)) ⌝ }
+    requires { ⌜ WereSound (now vertices) (now positions) (now arcs) (now edges) (now faces) (now counters) ⌝ }
+    requires { ⌜ SameSize (mesh (now vertices) (now positions) (now arcs) (now edges) (now faces) (now counters)) (mesh (now v) (now positions) (now a) (now e) (now f) k) ⌝ }
+    ensures { λ r. ⌜ left r (mesh (now (vertices .exit)) (now (positions .entry)) (now (arcs .exit)) (now (edges .exit)) (now (faces .exit)) (now (counters .exit))) ≡ over (mesh (now (vertices .entry)) (now (positions .entry)) (now (arcs .entry)) (now (edges .entry)) (now (faces .entry)) (now (counters .entry))) (worked (step (mesh (now (v .entry)) (now (positions .entry)) (now (a .entry)) (now (e .entry)) (now (f .entry)) k) told)) ⌝ }
 {
     let mut changed_arcs = [0u32; CHANGED];
     let mut changed_edges = [0u32; CHANGED];
@@ -131,13 +128,12 @@ pub fn settle(
         &mut changed_arcs,
         &mut changed_edges,
         vertices,
-        positions,
         arcs,
         edges,
         faces,
         counters,
         v,
-        p,
+        positions,
         a,
         e,
         f,
@@ -150,12 +146,10 @@ pub fn settle(
     }
     back::copy_back(
         vertices,
-        positions,
         arcs,
         edges,
         faces,
         v,
-        p,
         a,
         e,
         f,

@@ -29,6 +29,7 @@ ghost use Rattle.rules.specs.Insert.{insertFace};
 ghost use Rattle.rules.specs.Edit.{pokeWork};
 ghost use Rattle.edits.specs.Each.{eachIn};
 ghost use Rattle.edits.specs.Known.{Known};
+ghost use Rattle.edits.specs.Places.{Kept};
 
 // The three corners of a part: ring pair i and the new vertex.
 fn part(vs: Links, i: usize, c: u32) -> Links
@@ -127,6 +128,7 @@ fn parts_near(
     )
 }
 
+// Vertices that were there keep their places.
 pub fn poke_work(
     vertices: &mut [VertexRow],
     positions: &mut [PositionRow],
@@ -140,7 +142,7 @@ pub fn poke_work(
     position: Position,
 ) -> Answer
     requires { ⌜ (length (now past) ≡ length (now arcs)) × (length (now pastedges) ≡ length (now edges)) ⌝ }
-    ensures { λ r. ⌜ step (mesh (now (vertices .exit)) (now (positions .exit)) (now (arcs .exit)) (now (edges .exit)) (now (faces .exit)) (now (counters .exit))) r ≡ pokeWork (mesh (now (vertices .entry)) (now (positions .entry)) (now (arcs .entry)) (now (edges .entry)) (now (faces .entry)) (now (counters .entry))) f position ⌝ }
+    ensures { λ r. ⌜ (step (mesh (now (vertices .exit)) (now (positions .exit)) (now (arcs .exit)) (now (edges .exit)) (now (faces .exit)) (now (counters .exit))) r ≡ pokeWork (mesh (now (vertices .entry)) (now (positions .entry)) (now (arcs .entry)) (now (edges .entry)) (now (faces .entry)) (now (counters .entry))) f position) × Kept (now (vertices .entry)) (now (positions .entry)) (now (positions .exit)) ⌝ }
 {
     let vs = checks::rings::vertices_of(arcs, faces, f);
     let mark = rows::cell3(faces, f, 2);

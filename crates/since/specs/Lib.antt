@@ -2,3 +2,4 @@ pub mod Whole
 pub mod Since
 pub mod Changes
 pub mod Broken
+pub mod Were

@@ -22,13 +22,15 @@ use sound::passes;
 use sound::queries;
 ghost use mathlib.Core.Path.{_≡_};
 ghost use mathlib.Core.Bool.{true, false};
-ghost use mathlib.Core.List.{[]};
+ghost use mathlib.Core.List.{List, []};
 ghost use Prim.Native.Nat.{_≤_};
 ghost use lib.ListN.{length};
+ghost use lib.Ieee.{Float};
 ghost use Rattle.rules.specs.Mesh.{mesh};
 ghost use Rattle.rules.specs.Sound.{sound};
 ghost use Rattle.since.specs.Since.{sizesStill, countersStill, stillSound};
 ghost use Rattle.since.specs.Changes.{Listed};
+ghost use Rattle.since.specs.Were.{WereSound};
 
 const EDGE_LIMIT: usize = 8192;
 
@@ -36,27 +38,23 @@ const ARC_LIMIT: usize = 16384;
 
 const FACE_LIMIT: usize = 4096;
 
-// The tables as they were are v, p, a, e, f, and k the counters.
+// The tables as they were are v, a, e, f, and k the counters. The positions as they were are not given: an edit works on them in place, and they
+// are compared with nothing. So what is told holds with any positions that were as many as these.
 
-// Whether each table has as many rows as it had, and no more than the limits allow.
+// Whether each of these tables has as many rows as it had, and no more than the limits allow.
 fn same_sizes(
     v: &[VertexRow],
-    p: &[PositionRow],
     a: &[ArcRow],
     e: &[EdgeRow],
     f: &[FaceRow],
     vertices: &[VertexRow],
-    positions: &[PositionRow],
     arcs: &[ArcRow],
     edges: &[EdgeRow],
     faces: &[FaceRow],
 ) -> bool
-    ensures { λ r. ⌜ (r ≡ true → (sizesStill (mesh (now (v .entry)) (now (p .entry)) (now (a .entry)) (now (e .entry)) (now (f .entry)) []) (mesh (now (vertices .entry)) (now (positions .entry)) (now (arcs .entry)) (now (edges .entry)) (now (faces .entry)) []) ≡ true) × (length (now (edges .entry)) ≤ 8192) × (length (now (arcs .entry)) ≤ 16384) × (length (now (faces .entry)) ≤ 4096)) ⌝ }
+    ensures { λ r. ⌜ (r ≡ true → ((ps qs : List (List Float)) → length ps ≡ length qs → sizesStill (mesh (now (v .entry)) ps (now (a .entry)) (now (e .entry)) (now (f .entry)) []) (mesh (now (vertices .entry)) qs (now (arcs .entry)) (now (edges .entry)) (now (faces .entry)) []) ≡ true) × (length (now (edges .entry)) ≤ 8192) × (length (now (arcs .entry)) ≤ 16384) × (length (now (faces .entry)) ≤ 4096)) ⌝ }
 {
     if v.len() != vertices.len() {
-        return false;
-    }
-    if p.len() != positions.len() {
         return false;
     }
     if a.len() != arcs.len() {
@@ -114,7 +112,6 @@ pub fn still_sound(
     changed_arcs: &mut [u32; CHANGED],
     changed_edges: &mut [u32; CHANGED],
     v: &[VertexRow],
-    p: &[PositionRow],
     a: &[ArcRow],
     e: &[EdgeRow],
     f: &[FaceRow],
@@ -126,9 +123,9 @@ pub fn still_sound(
     faces: &[FaceRow],
     counters: &[u32; 3],
 ) -> Told
-    ensures { λ r. ⌜ (r .sound ≡ true → (stillSound (mesh (now (v .entry)) (now (p .entry)) (now (a .entry)) (now (e .entry)) (now (f .entry)) (now (k .entry))) (mesh (now (vertices .entry)) (now (positions .entry)) (now (arcs .entry)) (now (edges .entry)) (now (faces .entry)) (now (counters .entry))) ≡ true) × Listed (now («changed_arcs» .exit)) (r .arcs) (now (a .entry)) (now (arcs .entry)) × Listed (now («changed_edges» .exit)) (r .edges) (now (e .entry)) (now (edges .entry))) ⌝ }
+    ensures { λ r. ⌜ (r .sound ≡ true → ((ps : List (List Float)) → length ps ≡ length (now (positions .entry)) → stillSound (mesh (now (v .entry)) ps (now (a .entry)) (now (e .entry)) (now (f .entry)) (now (k .entry))) (mesh (now (vertices .entry)) (now (positions .entry)) (now (arcs .entry)) (now (edges .entry)) (now (faces .entry)) (now (counters .entry))) ≡ true) × Listed (now («changed_arcs» .exit)) (r .arcs) (now (a .entry)) (now (arcs .entry)) × Listed (now («changed_edges» .exit)) (r .edges) (now (e .entry)) (now (edges .entry))) ⌝ }
 {
-    if !same_sizes(v, p, a, e, f, vertices, positions, arcs, edges, faces) {
+    if !same_sizes(v, a, e, f, vertices, arcs, edges, faces) {
         return nothing_told();
     }
     if !counters_up(k, counters) {
@@ -170,7 +167,6 @@ pub fn sound_since(
     changed_arcs: &mut [u32; CHANGED],
     changed_edges: &mut [u32; CHANGED],
     v: &[VertexRow],
-    p: &[PositionRow],
     a: &[ArcRow],
     e: &[EdgeRow],
     f: &[FaceRow],
@@ -182,14 +178,13 @@ pub fn sound_since(
     faces: &[FaceRow],
     counters: &[u32; 3],
 ) -> Told
-    requires { ⌜ sound (mesh (now v) (now p) (now a) (now e) (now f) (now k)) ≡ true ⌝ }
+    requires { ⌜ WereSound (now v) (now positions) (now a) (now e) (now f) (now k) ⌝ }
     ensures { λ r. ⌜ (r .sound ≡ sound (mesh (now (vertices .entry)) (now (positions .entry)) (now (arcs .entry)) (now (edges .entry)) (now (faces .entry)) (now (counters .entry)))) × Listed (now («changed_arcs» .exit)) (r .arcs) (now (a .entry)) (now (arcs .entry)) × Listed (now («changed_edges» .exit)) (r .edges) (now (e .entry)) (now (edges .entry)) ⌝ }
 {
     let told = still_sound(
         changed_arcs,
         changed_edges,
         v,
-        p,
         a,
         e,
         f,

@@ -1,7 +1,7 @@
 use native.Mathlib.Omega.{arith}
 use Prim.Native.Nat.{ℕ}
 use mathlib.Core.Path.{_≡_, refl, ap, sym, _∙_}
-use mathlib.Core.List.{List}
+use mathlib.Core.List.{List, []}
 use lib.ListN.{getD}
 use Rattle.rules.specs.declared.Answer.the-variants.{Key, Mark}
 use Rattle.rules.specs.declared.Edit.{Edit}
@@ -12,6 +12,7 @@ use Rattle.rules.specs.Insert.{putFace, listsOf, insertWork}
 use Rattle.rules.specs.Edit.{remove, removeWork, splitWork, pokeWork, bridgeWork, arcBridgeWork}
 use Rattle.rules.specs.Extrude.{extrudeWork, arcExtrudeWork}
 use Rattle.rules.specs.Call.{work}
+use Rattle.edits.proofs.Places.{added-none, added-one}
 use borrow.Author.Needs.{needs}
 use Rattle.choice.proofs.vertex_insert.Statement.{statement}
 use Rattle.choice.proofs.vertex_insert.Tie as tie
@@ -32,7 +33,8 @@ returns : tie.Need-returns
 unfolding work
 returns c =
     let x = c .before .before .before .before .before .before .before .args in
-    λ a e f ks. ap (λ (t : Mesh). step t (Key (getD (x .counters .now) 0 0))) (c .before .before .new-vertex .ensures .1 a e f)
+    let made = c .before .before .new-vertex in
+    (λ a e f ks. ap (λ (t : Mesh). step t (Key (getD (x .counters .now) 0 0))) (c .before .before .new-vertex .ensures .1 a e f), added-one (x .vertices .now) (x .positions .now) (mesh (x .vertices .now) (x .positions .now) [] [] [] (x .counters .now)) (mesh (made .last .0) (made .last .1 .0) [] [] [] (made .last .1 .1 .0)) (x .position) (made .ensures .1 [] [] []) (added-none (x .vertices .now) (x .positions .now)) .kept)
 
 pub vertex-insert-spec : {M : Type 1} → statement M
 vertex-insert-spec =

@@ -27,13 +27,10 @@ returns-6 : tie.Need-returns-6
 returns-6 c = λ h. never h
 
 returns-7 : tie.Need-returns-7
-returns-7 c = λ h. never h
-
-returns-8 : tie.Need-returns-8
 unfolding sizesStill
-returns-8 c = λ h. (rw (eq-eqb _ _ (c .before .before .before .before .before .before .if1 .left), eq-eqb _ _ (c .before .before .before .before .before .if2 .left), eq-eqb _ _ (c .before .before .before .before .if3 .left), eq-eqb _ _ (c .before .before .before .if4 .left), eq-eqb _ _ (c .before .before .if5 .left)), omega arith, omega arith, leb→le _ _ (true-T h))
+returns-7 c = λ h. ((λ ps qs q. rw (eq-eqb _ _ (c .before .before .before .before .before .if1 .left), eq-eqb _ _ q, eq-eqb _ _ (c .before .before .before .before .if2 .left), eq-eqb _ _ (c .before .before .before .if3 .left), eq-eqb _ _ (c .before .before .if4 .left))), omega arith, omega arith, leb→le _ _ (true-T h))
 
 pub same-sizes-spec : {M : Type 1} → statement M
 same-sizes-spec =
     tie.close
-    (tie.spec returns returns-2 returns-3 returns-4 returns-5 returns-6 returns-7 returns-8)
+    (tie.spec returns returns-2 returns-3 returns-4 returns-5 returns-6 returns-7)

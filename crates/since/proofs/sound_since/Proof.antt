@@ -12,7 +12,8 @@ still-sound-requires c κs = search needs
 returns : tie.Need-returns
 returns c =
     let h = c .before .still-sound .ensures (c .if1 .taken) in
-    (c .if1 .taken ∙ sym (T-true _ (still-sound _ _ (true-T (c .before .before .before .before .pre)) (true-T (h .0)))), h .1, h .2)
+    let w = c .before .before .before .before .pre in
+    (c .if1 .taken ∙ sym (T-true _ (still-sound _ _ (true-T (w .whole)) (true-T (h .0 (w .positions) (w .size))))), h .1, h .2)
 
 ring-broken-requires : tie.Need-ring-broken-requires
 ring-broken-requires c κs = search needs

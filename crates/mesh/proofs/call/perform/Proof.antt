@@ -81,13 +81,13 @@ returns-2 : tie.Need-returns-2
 returns-2 c =
     let x = c .before .before .before .before .before .before .before .before .before .before .before .before .before .before .before .before .before .before .before .before .before .before .before .before .before .before .before .before .before .before .args in
     let w = c .before .before .before .before .before .before .before .work in
-    in-place (mesh (x .vertices .now) (x .positions .now) (x .arcs .now) (x .edges .now) (x .faces .now) (x .counters .now)) (x .edit) (x .keys .now) (step (mesh (w .last .0) (w .last .1 .0) (w .last .1 .1 .0) (w .last .1 .1 .1 .0) (w .last .1 .1 .1 .1 .0) (w .last .1 .1 .1 .1 .1 .0)) (w .result)) (three (x .counters .now) (c .before .before .before .before .before .before .before .before .before .before .before .before .before .before .before .before .before .before .before .before .before .before .before .before .before .before .before .known-three .ensures)) (c .before .before .before .before .before .before .before .before .before .before .before .before .before .before .before .before .before .before .before .before .before .before .before .before .before .before .before .before .before .before .pre .0) (ap accepted (sym (c .before .before .before .before .before .before .before .before .before .before .before .before .before .before .before .before .before .before .before .before .decide .ensures)) ∙ sym (c .before .before .before .before .before .before .before .before .before .before .before .before .before .before .before .before .before .before .before .accepted .ensures) ∙ not-false _ (c .before .before .before .before .before .before .before .before .before .before .before .before .before .before .before .before .before .before .if1 .left)) (sym (c .before .before .before .before .before .before .before .before .before .before .before .before .before .before .before .before .before .keeps-sound .ensures) ∙ c .before .before .before .before .before .before .before .before .before .before .before .before .before .before .before .before .if2 .taken) (w .ensures)
+    in-place (mesh (x .vertices .now) (x .positions .now) (x .arcs .now) (x .edges .now) (x .faces .now) (x .counters .now)) (x .edit) (x .keys .now) (step (mesh (w .last .0) (w .last .1 .0) (w .last .1 .1 .0) (w .last .1 .1 .1 .0) (w .last .1 .1 .1 .1 .0) (w .last .1 .1 .1 .1 .1 .0)) (w .result)) (three (x .counters .now) (c .before .before .before .before .before .before .before .before .before .before .before .before .before .before .before .before .before .before .before .before .before .before .before .before .before .before .before .known-three .ensures)) (c .before .before .before .before .before .before .before .before .before .before .before .before .before .before .before .before .before .before .before .before .before .before .before .before .before .before .before .before .before .before .pre .0) (ap accepted (sym (c .before .before .before .before .before .before .before .before .before .before .before .before .before .before .before .before .before .before .before .before .decide .ensures)) ∙ sym (c .before .before .before .before .before .before .before .before .before .before .before .before .before .before .before .before .before .before .before .accepted .ensures) ∙ not-false _ (c .before .before .before .before .before .before .before .before .before .before .before .before .before .before .before .before .before .before .if1 .left)) (sym (c .before .before .before .before .before .before .before .before .before .before .before .before .before .before .before .before .before .keeps-sound .ensures) ∙ c .before .before .before .before .before .before .before .before .before .before .before .before .before .before .before .before .if2 .taken) (w .ensures .0)
 
 work-in-room-requires : tie.Need-work-in-room-requires
 work-in-room-requires c κs =
-    let x = c .before .before .before .before .before .before .before .before .before .before .before .before .before .before .before .before .before .before .before .before .before .before .before .before .before .before .before .args in
-    let z = c .before .before .before .before .before .before .before .before .before .before .before .before .before .before .before .before .before .before .before .before .before .before .before .before .before .before .before .pre in
-    (z .0, (z .1 .0, (z .1 .1, few-keys (mesh (x .vertices .now) (x .positions .now) (x .arcs .now) (x .edges .now) (x .faces .now) (x .counters .now)) (x .edit) (x .keys .now) (ap accepted (sym (c .before .before .before .before .before .before .before .before .before .before .before .before .before .before .before .before .before .decide .ensures)) ∙ sym (c .before .before .before .before .before .before .before .before .before .before .before .before .before .before .before .before .accepted .ensures) ∙ not-false _ (c .before .before .before .before .before .before .before .before .before .before .before .before .before .before .before .if1 .left)))))
+    let x = c .before .before .before .before .before .before .before .before .before .before .before .before .before .before .before .before .before .before .before .before .before .before .before .before .before .before .args in
+    let z = c .before .before .before .before .before .before .before .before .before .before .before .before .before .before .before .before .before .before .before .before .before .before .before .before .before .before .pre in
+    (z .0, (z .1 .0, (z .1 .1, few-keys (mesh (x .vertices .now) (x .positions .now) (x .arcs .now) (x .edges .now) (x .faces .now) (x .counters .now)) (x .edit) (x .keys .now) (ap accepted (sym (c .before .before .before .before .before .before .before .before .before .before .before .before .before .before .before .before .decide .ensures)) ∙ sym (c .before .before .before .before .before .before .before .before .before .before .before .before .before .before .before .accepted .ensures) ∙ not-false _ (c .before .before .before .before .before .before .before .before .before .before .before .before .before .before .if1 .left)))))
 
 same-length-13 : tie.Need-same-length-13
 same-length-13 c = search needs
@@ -122,14 +122,11 @@ same-length-22 c = search needs
 same-length-23 : tie.Need-same-length-23
 same-length-23 c = search needs
 
-same-length-24 : tie.Need-same-length-24
-same-length-24 c = search needs
-
 returns-3 : tie.Need-returns-3
 returns-3 c =
-    let x = c .before .before .before .before .before .before .before .before .before .before .before .before .before .before .before .before .before .before .before .before .before .before .before .before .before .before .before .before .before .before .before .before .before .before .before .before .before .before .before .before .args in
-    let g = c .before .before .before .before .before .before .before .before .before .before .before .before .work-in-room in
-    performed (mesh (x .vertices .now) (x .positions .now) (x .arcs .now) (x .edges .now) (x .faces .now) (x .counters .now)) (x .edit) (x .keys .now) (left (g .result) (mesh (g .last .0) (g .last .1 .0) (g .last .1 .1 .0) (g .last .1 .1 .1 .0) (g .last .1 .1 .1 .1 .0) (g .last .1 .1 .1 .1 .1 .0))) (ap accepted (sym (c .before .before .before .before .before .before .before .before .before .before .before .before .before .before .before .before .before .before .before .before .before .before .before .before .before .before .before .before .before .before .decide .ensures)) ∙ sym (c .before .before .before .before .before .before .before .before .before .before .before .before .before .before .before .before .before .before .before .before .before .before .before .before .before .before .before .before .before .accepted .ensures) ∙ not-false _ (c .before .before .before .before .before .before .before .before .before .before .before .before .before .before .before .before .before .before .before .before .before .before .before .before .before .before .before .before .if1 .left)) (g .ensures)
+    let x = c .before .before .before .before .before .before .before .before .before .before .before .before .before .before .before .before .before .before .before .before .before .before .before .before .before .before .before .before .before .before .before .before .before .before .before .before .before .before .args in
+    let g = c .before .before .before .before .before .before .before .before .before .before .before .work-in-room in
+    performed (mesh (x .vertices .now) (x .positions .now) (x .arcs .now) (x .edges .now) (x .faces .now) (x .counters .now)) (x .edit) (x .keys .now) (left (g .result) (mesh (g .last .0) (g .last .1 .0) (g .last .1 .1 .0) (g .last .1 .1 .1 .0) (g .last .1 .1 .1 .1 .0) (g .last .1 .1 .1 .1 .1 .0))) (ap accepted (sym (c .before .before .before .before .before .before .before .before .before .before .before .before .before .before .before .before .before .before .before .before .before .before .before .before .before .before .before .before .decide .ensures)) ∙ sym (c .before .before .before .before .before .before .before .before .before .before .before .before .before .before .before .before .before .before .before .before .before .before .before .before .before .before .before .accepted .ensures) ∙ not-false _ (c .before .before .before .before .before .before .before .before .before .before .before .before .before .before .before .before .before .before .before .before .before .before .before .before .before .before .if1 .left)) (g .ensures)
 
 pub perform-spec : {M : Type 1} → statement M
 perform-spec =
@@ -166,5 +163,4 @@ perform-spec =
     same-length-21
     same-length-22
     same-length-23
-    same-length-24
     returns-3)
