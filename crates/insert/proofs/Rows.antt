@@ -5,29 +5,22 @@ use native.Mathlib.Numerals.{add-one}
 use native.Mathlib.Omega.{arith}
 use native.Mathlib.Decide.{ℕ-discrete}
 use mathlib.Core.Path.{_≡_, refl, ap, sym, subst, _∙_}
-use mathlib.Core.Bool.{Bool, true, false, cond}
-use mathlib.Core.List.{List, [], _∷_, _++_, map}
-use lib.ListN.{length, getD, take, drop, set, replicate, drop-of-length-le, length-map}
+use mathlib.Core.List.{List, [], _∷_, map}
+use lib.ListN.{length, getD, drop, set, drop-of-length-le, length-map}
 use lib.Seq.{drop-cons, getD-set-same, getD-set-other}
-use lib.Dec.{eqb}
 use borrow.Author.Tests.{eq-eqb, ne-eqb}
 use Rattle.rules.specs.declared.Links.{Links}
-use Rattle.rules.specs.declared.Ended.the-variants.{Closed}
-use Rattle.rules.specs.declared.Walk.{Walk}
 use Rattle.rules.specs.Table.{Table, cell, upTo, after, freeRow, count, used}
-use Rattle.rules.specs.Mesh.{Mesh, with-arcs, oppositeOf, placesOf, linksOf, listOf}
-use Rattle.rules.specs.Link.{walk, walkEnded, walkOf, turnIn, arcCount}
+use Rattle.rules.specs.Mesh.{Mesh, with-arcs, oppositeOf, linksOf, listOf}
+use Rattle.rules.specs.Link.{arcCount}
 use Rattle.rules.specs.Insert.{facelessIn, edgesIn, newFace, putFace, listsOf}
 use Rattle.rules.proofs.Scan.{upTo-more}
-use Rattle.rules.proofs.Walks.{walk-none}
 use Rattle.rules.proofs.Places.{list-back}
 use Rattle.lists.proofs.Laws.{after-on}
-use Rattle.edges.proofs.Rings.{walk-length}
 use Rattle.pairs.specs.Pairs.{pairArc, arcsOf}
 use Rattle.pairs.proofs.Listed.{arcs-length}
-use Rattle.insert.specs.Perimeter.{listFrom, listsFrom, interiorBy, exteriorTo, exteriorBy, isCut, Reaches, whole, circling, InRow, Taken}
+use Rattle.insert.specs.Perimeter.{listFrom, listsFrom, interiorBy, exteriorTo, exteriorBy, Holds, InRow, Taken}
 use Rattle.insert.proofs.FoundOnce.{lists-are, list-at-place, put-face-by}
-use Rattle.insert.proofs.Circles.{circle-same}
 
 -- ---- the search of a row. What stands for an arc is given: itself, or its opposite
 
@@ -48,20 +41,7 @@ module _ (arcs : Table) (g : ℕ → ℕ) (row : List ℕ) (j : ℕ) where
     unfolding facelessIn
     row-next e = rw (drop-cons row j 0 l, ne-eqb _ _ (λ q. e (sym its-face ∙ q)), add-one j)
 
--- ---- the places of a list have the same first arc without a face as the list
-
-module _ (t : Table) (g : ℕ → ℕ) (none : g 0 ≡ 0) where
-  padded : (n m : ℕ) → facelessIn t (map g (take n (replicate m 0))) ≡ 0
-  unfolding facelessIn cell
-  padded zero m = refl
-  padded (suc n) zero = refl
-  padded (suc n) (suc m) = rw none
-
-  same-first : (n m : ℕ) (l : List ℕ) → length l ≤ n → facelessIn t (map g (take n (l ++ replicate m 0))) ≡ facelessIn t (map g l)
-  unfolding facelessIn
-  same-first n m [] h = padded n m
-  same-first zero m (x ∷ xs) h = absurd (not-suc-le-zero h)
-  same-first (suc n) m (x ∷ xs) h = ap (λ (later : ℕ). cond (eqb (cell t (g x) 4) 0) (g x) later) (same-first n m xs (omega arith))
+-- ---- a list in a row
 
 pub map-itself : (l : List ℕ) → map (λ x. x) l ≡ l
 map-itself [] = refl
@@ -111,52 +91,21 @@ put-same m per rows lists mark h =
 
 -- ---- lists that are taken
 
--- a walk that was not cut off is the same under every bound that is no less than its length
-pub walk-same : (step : ℕ → ℕ) (first b c x : ℕ) → isCut (walkEnded step first b x) ≡ false → length (walk step first b x) ≤ c → walk step first c x ≡ walk step first b x
-unfolding walk walkEnded isCut
-walk-same step first zero c zero e l = walk-none step first c
-walk-same step first zero c (suc x) e l = let z : _≡_ {A = ℕ} 0 1 = ap (λ (t : Bool). cond t 0 1) e in absurd (omega arith)
-walk-same step first (suc b) c zero e l = walk-none step first c
-walk-same step first (suc b) zero (suc x) e l = absurd (not-suc-le-zero l)
-walk-same step first (suc b) (suc c) (suc x) e l = go (eqb (step (suc x)) first) e l (walk-same step first b c (step (suc x)))
-  where
-    y : ℕ
-    y = step (suc x)
-
-    go : (t : Bool) → isCut (cond t Closed (walkEnded step first b (step (suc x)))) ≡ false → length (suc x ∷ cond t [] (walk step first b (step (suc x)))) ≤ suc c → (isCut (walkEnded step first b (step (suc x))) ≡ false → length (walk step first b (step (suc x))) ≤ c → walk step first c (step (suc x)) ≡ walk step first b (step (suc x))) → suc x ∷ cond t [] (walk step first c (step (suc x))) ≡ suc x ∷ cond t [] (walk step first b (step (suc x)))
-    go true q k ih = refl
-    go false q k ih = ap {B = List ℕ} (λ r. suc x ∷ r) (ih q (omega arith))
-
--- a walk of 64 in its row holds the walk under every bound that reaches so far
-reached : (step : ℕ → ℕ) (x n b : ℕ) → Reaches (walkOf step x 64) n → n ≤ b → InRow (placesOf (walk step x 64 x)) (walk step x b x)
-unfolding walkOf linksOf placesOf
-reached step x n b (whole e l) q =
-    record { finds = λ t g z. same-first t g z 64 64 (walk step x 64 x) (walk-length step x 64 x) ∙ ap (λ (w : List ℕ). facelessIn t (map g w)) (sym (walk-same step x 64 b x e (omega arith))) }
-reached step x n b (circling e l h) q =
-    record { finds = λ t g z. same-first t g z 64 64 (walk step x 64 x) (walk-length step x 64 x) ∙ sym (circle-same step x n e l h b q t g) }
-
 -- what the loop keeps of each row that is taken
 abbrev pub Got : Table → Table → List ℕ → List (List ℕ) → ℕ → ℕ → Type 0
-Got arcs edges leads rows longest i = (k : ℕ) → k < i → (b : ℕ) → longest ≤ b → InRow (getD rows k []) (listFrom arcs edges b (getD leads k 0))
+Got arcs edges leads rows longest i = (k : ℕ) → k < i → Holds (getD rows k []) arcs edges (getD leads k 0) longest
 
 pub got-none : (arcs edges : Table) (leads : List ℕ) (rows : List (List ℕ)) (longest : ℕ) → Got arcs edges leads rows longest 0
 got-none arcs edges leads rows longest k l = absurd (not-suc-le-zero l)
 
--- w is the walk of list i, from x, and n arcs are enough for it
-pub got-more : (arcs edges : Table) (leads : List ℕ) (rows : List (List ℕ)) (longest i x : ℕ) (w : Walk) (n longer : ℕ) → i < length rows → x ≡ getD leads i 0 → w ≡ walkOf (turnIn arcs edges) x 64 → Reaches w n → longest ≤ longer → n ≤ longer
-    → Got arcs edges leads rows longest i → Got arcs edges leads (set rows i (w .links .at)) longer (i + 1)
-unfolding walkOf linksOf listFrom
-got-more arcs edges leads rows longest i x w n longer l ex ew r g₁ g₂ h k q b m = go (ℕ-discrete k i)
+-- the row holds list i, from x, and n arcs are enough for it
+pub got-more : (arcs edges : Table) (leads : List ℕ) (rows : List (List ℕ)) (longest i x : ℕ) (row : List ℕ) (n longer : ℕ) → i < length rows → x ≡ getD leads i 0 → Holds row arcs edges x n → longest ≤ longer → n ≤ longer
+    → Got arcs edges leads rows longest i → Got arcs edges leads (set rows i row) longer (i + 1)
+got-more arcs edges leads rows longest i x row n longer l ex r g₁ g₂ h k q b m = go (ℕ-discrete k i)
   where
-    is : w ≡ walkOf (turnIn arcs edges) (getD leads i 0) 64
-    is = ew ∙ ap (λ (y : ℕ). walkOf (turnIn arcs edges) y 64) ex
-
-    here : InRow (w .links .at) (walk (turnIn arcs edges) (getD leads i 0) b (getD leads i 0))
-    here = subst (λ (v : Walk). InRow (v .links .at) (walk (turnIn arcs edges) (getD leads i 0) b (getD leads i 0))) (sym is) (reached (turnIn arcs edges) (getD leads i 0) n b (subst (λ (v : Walk). Reaches v n) is r) (omega arith))
-
-    go : Dec (k ≡ i) → InRow (getD (set rows i (w .links .at)) k []) (walk (turnIn arcs edges) (getD leads k 0) b (getD leads k 0))
-    go (yes e) = rw (e, getD-set-same rows i (w .links .at) [] l) here
-    go (no ne) = rw (getD-set-other rows i k (w .links .at) [] ne) (h k (omega arith) b (omega arith))
+    go : Dec (k ≡ i) → InRow (getD (set rows i row) k []) (listFrom arcs edges b (getD leads k 0))
+    go (yes e) = rw (e, getD-set-same rows i row [] l, ← ex) (r b (omega arith))
+    go (no ne) = rw (getD-set-other rows i k row [] ne) (h k (omega arith) b (omega arith))
 
 -- at the loop's end, where the mesh has as many arcs as are enough
 pub got-all : (arcs edges : Table) (leads : List ℕ) (rows : List (List ℕ)) (longest n : ℕ) → n ≡ length leads → longest ≤ count used arcs → Got arcs edges leads rows longest n → Taken rows (listsFrom arcs edges (count used arcs) leads) (length leads)

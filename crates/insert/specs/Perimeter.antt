@@ -1,14 +1,11 @@
 -- Face insert as the code goes about it: the perimeter's arcs are found once, and every link is written by that list.
 use Prim.Native.Nat.{ℕ, _≤_, _<_}
 use mathlib.Core.Path.{_≡_}
-use mathlib.Core.Bool.{Bool, true, false, cond}
+use mathlib.Core.Bool.{false, cond}
 use mathlib.Core.List.{List, [], map}
 use lib.ListN.{length, getD, take}
 use lib.Dec.{eqb}
-use Rattle.rules.specs.Table.{Table, cell, put, upTo, after, orElse, has}
-use Rattle.rules.specs.declared.Ended.{Ended}
-use Rattle.rules.specs.declared.Ended.the-variants.{Closed, Open, Cut}
-use Rattle.rules.specs.declared.Walk.{Walk}
+use Rattle.rules.specs.Table.{Table, cell, put, upTo, after, orElse}
 use Rattle.rules.specs.Mesh.{Mesh, oppositeOf}
 use Rattle.rules.specs.Link.{walk, turnIn, getOrInsertEdge}
 use Rattle.rules.specs.Insert.{facelessIn}
@@ -38,16 +35,10 @@ listFrom past pastedges bound x = walk (turnIn past pastedges) x bound x
 unfoldable pub listsFrom : Table → Table → ℕ → List ℕ → List (List ℕ)
 listsFrom past pastedges bound leads = map (listFrom past pastedges bound) leads
 
--- a walk was cut off
-unfoldable pub isCut : Ended → Bool
-isCut Closed = false
-isCut Open = false
-isCut Cut = true
-
--- so many arcs are enough to meet every arc of a list: its walk was not cut off and is no longer, or the arc after them stands among them
-pub data Reaches (w : Walk) (n : ℕ) : Type 0 where
-  whole : isCut (w .ended) ≡ false → w .links .len ≤ n → Reaches w n
-  circling : isCut (w .ended) ≡ true → n < 64 → has (take n (w .links .at)) (getD (w .links .at) n 0) ≡ true → Reaches w n
+-- a row was ended at place n: what stands before is as it was, and 0 from there on
+pub record Ends (row : List ℕ) (n : ℕ) (out : List ℕ) : Type 0 where
+  pub before : take n out ≡ take n row
+  pub none : (k : ℕ) → n ≤ k → getD out k 0 ≡ 0
 
 -- a list in a row: a search of the row, 0 for none, finds what one of the list does; and so many lists, each in its row
 pub record InRow (row l : List ℕ) : Type 0 where
@@ -55,6 +46,10 @@ pub record InRow (row l : List ℕ) : Type 0 where
 
 abbrev pub Taken : List (List ℕ) → List (List ℕ) → ℕ → Type 0
 Taken rows lists n = (k : ℕ) → k < n → InRow (getD rows k []) (getD lists k [])
+
+-- so many arcs of the list from x meet every one that it has, and the row has them: it holds the list of every bound that is no less
+abbrev pub Holds : List ℕ → Table → Table → ℕ → ℕ → Type 0
+Holds row past pastedges x n = (b : ℕ) → n ≤ b → InRow row (listFrom past pastedges b x)
 
 -- the interior at the arc x with y after it: link, then face
 unfoldable pub interiorTo : ℕ → ℕ → ℕ → Table → Table

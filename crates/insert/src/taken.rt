@@ -1,63 +1,94 @@
 // The lists of a perimeter's vertices as they are before its edges: a row for each, 0 from the list's end on. And the exterior by such rows.
-// Document 01's rule 5: the lists are older than the edges. A row has 64 places. A list that is longer is taken so if it runs in a circle there:
-// every arc of it stands in the row then.
+// Document 01's rule 5: the lists are older than the edges. A row has 64 places. A list that runs in a circle past its first arc is walked until
+// that is seen: every arc of it stands in the row then.
 
 use rules::ArcRow;
 use rules::EdgeRow;
-use rules::Ended;
 use rules::Links;
 use rules::RING;
-use rules::Walk;
 use tables::links;
 use tables::rows;
 use walks::lists as vertexlists;
 ghost use mathlib.Core.Path.{_≡_};
 ghost use mathlib.Core.Bool.{true};
 ghost use mathlib.Core.List.{[], map};
+ghost use mathlib.Core.Logic.{_⊎_};
 ghost use Prim.Native.Nat.{_≤_, _<_};
 ghost use lib.ListN.{length, getD, take};
 ghost use Rattle.rules.specs.Table.{count, used, has};
 ghost use Rattle.rules.specs.Mesh.{listOf, oppositeOf};
 ghost use Rattle.rules.specs.Insert.{facelessIn};
-ghost use Rattle.insert.specs.Perimeter.{listsFrom, exteriorTo, exteriorBy, isCut, Reaches, Taken};
+ghost use Rattle.insert.specs.Perimeter.{listsFrom, exteriorTo, exteriorBy, Ends, Holds, Taken};
 
-// Whether a walk was cut off.
-fn cut(ended: Ended) -> bool
-    ensures { λ r. ⌜ r ≡ isCut ended ⌝ }
+// Says only how many places a row has.
+fn known_places(row: [u32; RING])
+    ensures { λ _. ⌜ length row ≡ 64 ⌝ }
+{}
+
+// The saved arc once x stands at place k: those at the powers of two are saved, each in place of the one before.
+fn saved_at(k: usize, saved: u32, x: u32) -> u32
+    ensures { λ r. ⌜ (r ≡ saved) ⊎ (r ≡ x) ⌝ }
 {
-    match ended {
-        Ended::Closed => false,
-        Ended::Open => false,
-        Ended::Cut => true,
+    match k {
+        1 | 2 | 4 | 8 | 16 | 32 => x,
+        _ => saved,
     }
 }
 
-// The first place of the row whose arc stands before it too, so that from there on a walk repeats. 65 where there is none.
-fn place_again(row: [u32; RING]) -> usize
-    ensures { λ r. ⌜ (r ≤ 64 → (r < 64) × (has (take r row) (getD row r 0) ≡ true)) ⌝ }
+// Ends the row at place k: what stood there does not matter.
+fn end_row(row: &mut [u32; RING], k: usize)
+    ensures { λ _. ⌜ Ends (now (row .entry)) k (now (row .exit)) ⌝ }
 {
-    let mut k: usize = 0;
-    while k < RING {
-        let x = row[k];
-        if lists::stands_from(&row, k, 0, x) {
-            return k;
-        }
-        k += 1;
+    known_places(*row);
+    let mut j = k;
+    while j < RING {
+        row[j] = 0;
+        j += 1;
+    }
+}
+
+// How many arcs of a list meet every one that it has, where 64 fill the row and x is next. 65 where that is not known.
+// A circle of more than 32 arcs, or with more before it, meets no saved arc: if all of it is in the row, x is there too.
+fn reach_full(row: &[u32; RING], x: u32) -> usize
+    ensures { λ r. ⌜ (64 ≤ r) × (r ≤ 64 → (x ≡ 0) ⊎ (has (take 64 (now (row .entry))) x ≡ true)) ⌝ }
+{
+    if x == 0 {
+        return RING;
+    }
+    if lists::stands_from(row, RING, 0, x) {
+        return RING;
     }
     RING + 1
 }
 
-// How many arcs of the list meet every one that it has. 65 where that is not known.
-fn reach(walk: Walk) -> usize
-    ensures { λ r. ⌜ (r ≤ 64 → Reaches walk r) ⌝ }
+// The list from its first arc into the row, and how many arcs of it meet every one that it has. 65 where that is not known.
+// It stops where the list runs in a circle, by Brent's method: an arc that equals the saved one stands in the row, and so do all that follow.
+fn take_list(arcs: &[ArcRow], edges: &[EdgeRow], first: u32, row: &mut [u32; RING]) -> usize
+    ensures { λ r. ⌜ (r ≤ 64 → Holds (now (row .exit)) (now (arcs .entry)) (now (edges .entry)) first r) ⌝ }
 {
-    let list = walk.links;
-    let ended = walk.ended;
-    if cut(ended) {
-        let at = list.at;
-        return place_again(at);
+    known_places(*row);
+    let mut x = first;
+    let mut saved = first;
+    let mut k: usize = 0;
+    while k < RING {
+        if x == 0 {
+            end_row(row, k);
+            return k;
+        }
+        row[k] = x;
+        saved = saved_at(k, saved, x);
+        x = vertexlists::turn(arcs, edges, x);
+        k += 1;
+        if x == first {
+            end_row(row, k);
+            return k;
+        }
+        if x == saved {
+            end_row(row, k);
+            return k;
+        }
     }
-    list.len
+    reach_full(row, x)
 }
 
 // No less than either.
@@ -104,24 +135,15 @@ pub fn take_lists(
     let mut longest: usize = 0;
     let mut i: usize = 0;
     while i < n {
-        let walk = vertexlists::out_list(arcs, edges, from[i]);
-        let most = reach(walk);
+        let most = take_list(arcs, edges, from[i], &mut rows[i]);
         if most > RING {
             return false;
         }
-        let list = walk.links;
-        let at = list.at;
-        rows[i] = at;
         longest = greater(longest, most);
         i += 1;
     }
     used_at_least(arcs, longest)
 }
-
-// Says only how many places a row has.
-fn known_places(row: [u32; RING])
-    ensures { λ _. ⌜ length row ≡ 64 ⌝ }
-{}
 
 // The first arc of row i that has no face now, or none: none itself has none, so the search ends at the list's end.
 fn faceless_out(arcs: &[ArcRow], lists: &[[u32; RING]], i: usize) -> u32

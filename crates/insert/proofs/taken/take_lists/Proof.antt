@@ -29,31 +29,28 @@ loop-holds c =
     let a = c .before .before .before .args in
     (search needs, (refl, got-none (a .arcs .now) (a .edges .now) (take (c .before .before .size .result) (a .leads .at)) (a .rows .now) 0))
 
-mul-out-list : tie.Need-mul-out-list Inv-loop μ-loop
-mul-out-list c = search needs
+mul-take-list : tie.Need-mul-take-list Inv-loop μ-loop
+mul-take-list c = search needs
 
-array-read-out-list : tie.Need-array-read-out-list Inv-loop μ-loop
-array-read-out-list c = search needs
+array-read-take-list : tie.Need-array-read-take-list Inv-loop μ-loop
+array-read-take-list c = search needs
 
-out-list-requires : tie.Need-out-list-requires Inv-loop μ-loop
-out-list-requires c κs = search needs
+mul-take-list-2 : tie.Need-mul-take-list-2 Inv-loop μ-loop
+mul-take-list-2 c = search needs
 
-reach-requires : tie.Need-reach-requires Inv-loop μ-loop
-reach-requires c κs = search needs
+index-1-take-list : tie.Need-index-1-take-list Inv-loop μ-loop
+index-1-take-list c =
+    let l = c .before in
+    omega (arith, l .before .before .before .before .pre, l .loop .inv .1 .0, l .before .before .known-few .ensures, l .before .before .before .size .ensures, c .loop-test .taken)
+
+take-list-requires : tie.Need-take-list-requires Inv-loop μ-loop
+take-list-requires c κs = search needs
 
 same-length : tie.Need-same-length Inv-loop μ-loop
 same-length c = search needs
 
 returns : tie.Need-returns Inv-loop μ-loop
 returns c = λ e. let z : _≡_ {A = ℕ} 0 1 = ap (λ (t : Bool). cond t 1 0) e in absurd (omega arith)
-
-mul-at : tie.Need-mul-at Inv-loop μ-loop
-mul-at c = search needs
-
-slice-set-from-at : tie.Need-slice-set-from-at Inv-loop μ-loop
-slice-set-from-at c =
-    let l = c .before .before .before .before .before .before in
-    omega (arith, l .before .before .before .before .pre, l .loop .inv .1 .0, l .before .before .known-few .ensures, l .before .before .before .size .ensures, c .before .before .before .before .before .loop-test .taken)
 
 greater-requires : tie.Need-greater-requires Inv-loop μ-loop
 greater-requires c κs = search needs
@@ -66,17 +63,17 @@ loop-less c = search needs
 
 loop-again : tie.Need-loop-again Inv-loop μ-loop
 loop-again c =
-    let l = c .before .before .before .before .before .before .before in
+    let l = c .before .before .before .before .before in
     let s = l .before .before .before .before in
     let a = s .args in
     let n = l .before .before .before .size in
-    let w = c .before .before .before .before .before .out-list in
-    let on : l .loop .i < n .result = c .before .before .before .before .before .before .loop-test .taken in
+    let t = c .before .before .take-list in
+    let on : l .loop .i < n .result = c .before .before .before .before .loop-test .taken in
     let inside : l .loop .i < length (l .loop .rows) = omega (arith, s .pre, l .loop .inv .1 .0, l .before .before .known-few .ensures, n .ensures) in (
       search needs,
       (
-        length-set (l .loop .rows) (l .loop .i) (w .result .links .at) ∙ l .loop .inv .1 .0,
-        got-more (a .arcs .now) (a .edges .now) (take (n .result) (a .leads .at)) (l .loop .rows) (l .loop .longest) (l .loop .i) (getD (a .leads .at) (l .loop .i) 0) (w .result) (c .before .before .before .before .reach .result) (c .greater .result) inside (sym (getD-take (n .result) (a .leads .at) (l .loop .i) 0 on)) (w .ensures) (c .before .before .before .before .reach .ensures (omega (arith, c .before .before .before .if1 .left))) (c .greater .ensures .0) (c .greater .ensures .1) (l .loop .inv .1 .1),
+        length-set (l .loop .rows) (l .loop .i) (t .last .1 .1 .1 .0) ∙ l .loop .inv .1 .0,
+        got-more (a .arcs .now) (a .edges .now) (take (n .result) (a .leads .at)) (l .loop .rows) (l .loop .longest) (l .loop .i) (getD (a .leads .at) (l .loop .i) 0) (t .last .1 .1 .1 .0) (t .result) (c .greater .result) inside (sym (getD-take (n .result) (a .leads .at) (l .loop .i) 0 on)) (t .ensures (omega (arith, c .before .if1 .left))) (c .greater .ensures .0) (c .greater .ensures .1) (l .loop .inv .1 .1),
       ),
     )
 
@@ -105,14 +102,13 @@ take-lists-spec =
     size-requires
     known-few-requires
     loop-holds
-    mul-out-list
-    array-read-out-list
-    out-list-requires
-    reach-requires
+    mul-take-list
+    array-read-take-list
+    mul-take-list-2
+    index-1-take-list
+    take-list-requires
     same-length
     returns
-    mul-at
-    slice-set-from-at
     greater-requires
     add-i
     loop-less
