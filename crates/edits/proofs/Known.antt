@@ -3,7 +3,6 @@ use Prim.Native.Nat.{ℕ, zero, suc}
 use mathlib.Core.Path.{_≡_, refl, ap, sym, subst, _∙_}
 use mathlib.Core.Bool.{Bool, true, false, cond}
 use mathlib.Core.List.{List}
-use lib.ListN.{take}
 use borrow.Author.Tests.{eq-eqb, ne-eqb}
 use Rattle.rules.specs.declared.Answer.{Answer}
 use Rattle.rules.specs.declared.Answer.the-variants.{Done}
@@ -20,7 +19,7 @@ use Rattle.edits.specs.Known.{Known}
 
 pub known-stays : (m n : Mesh) (seen : List Bool) (near : List ℕ) (k : Around) → Filled m n → Known (m .arcs) (m .edges) (m .faces) seen near k → Known (n .arcs) (n .edges) (n .faces) seen near k
 known-stays m n seen near k f h = record {
-  listed = near-stays (m .arcs) (n .arcs) seen (take (k .by .len) near) (k .by .spare) (f .arcs) (h .listed);
+  listed = near-stays (m .arcs) (n .arcs) seen near (k .by) (f .arcs) (h .listed);
   arcs-used = used-stays (m .arcs) (n .arcs) (k .from .arc) (f .arcs) (h .arcs-used);
   edges-used = used-stays (m .edges) (n .edges) (k .from .edge) (f .edges) (h .edges-used);
   faces-used = used-stays (m .faces) (n .faces) (k .from .face) (f .faces) (h .faces-used);

@@ -17,7 +17,6 @@ use tables::rows;
 ghost use mathlib.Core.Path.{_≡_};
 ghost use mathlib.Core.List.{List};
 ghost use Prim.Native.Nat.{_≤_};
-ghost use lib.ListN.{take};
 ghost use lib.Ieee.{Float};
 ghost use Rattle.rules.specs.Table.{Table};
 ghost use Rattle.rules.specs.Mesh.{mesh, arcBetween};
@@ -92,7 +91,7 @@ pub fn edge_near(
     a: u32,
     b: u32,
 ) -> u32
-    requires { ⌜ Near (now arcs) (now seen) (take (around .by .len) (now near)) (around .by .spare) ⌝ }
+    requires { ⌜ Near (now arcs) (now seen) (now near) (around .by) ⌝ }
     requires { ⌜ UsedBefore (now arcs) (around .from .arc) × UsedBefore (now edges) (around .from .edge) ⌝ }
     ensures { λ r. ⌜ ((p : List (List Float)) (f : Table) → mesh (now (vertices .exit)) p (now (arcs .exit)) (now (edges .exit)) f (now (counters .exit)) ≡ getOrInsertEdge (mesh (now (vertices .entry)) p (now (arcs .entry)) (now (edges .entry)) f (now (counters .entry))) a b) × (r ≡ arcBetween (now (arcs .exit)) a b) ⌝ }
 {

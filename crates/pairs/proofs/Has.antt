@@ -1,10 +1,12 @@
--- A list with one number more at its end: what stands in it.
-use Prim.Native.Nat.{ℕ, zero, suc, _+_, _<_}
+-- A list with one number more at its end: what stands in it, and where. A list of which nothing is sought past a place.
+use Prim.Native.Nat.{ℕ, zero, suc, _+_, _≤_, _<_}
 use native.Mathlib.Numerals.{add-one}
-use mathlib.Core.Path.{_≡_, refl, ap, sym, _∙_}
-use mathlib.Core.Bool.{Bool, true, false, _||_}
+use native.Mathlib.Omega.{arith}
+use native.Mathlib.Decide.{decLt}
+use mathlib.Core.Path.{_≡_, refl, ap, sym, _∙_, subst}
+use mathlib.Core.Bool.{Bool, true, false, _||_, cond}
 use mathlib.Core.List.{List, [], _∷_, _++_}
-use lib.ListN.{length, getD, set, take}
+use lib.ListN.{length, getD, set, take, length-append, List·getD-append}
 use lib.Seq.{take-suc-set}
 use lib.Dec.{eqb}
 use borrow.Author.Tests.{eq-eqb, ne-eqb}
@@ -48,5 +50,39 @@ has-read (x ∷ xs) zero y h = h
 has-read (x ∷ xs) (suc n) y h = go (eqb y x) h (has-read xs n y)
   where
     go : (b : Bool) → (b || has (take (suc n) xs) y) ≡ true → (has (take (suc n) xs) y ≡ true → has (take n xs ++ (getD xs n 0 ∷ [])) y ≡ true) → (b || has (take n xs ++ (getD xs n 0 ∷ [])) y) ≡ true
+    go true q ih = refl
+    go false q ih = ih q
+
+-- ---- by places
+
+-- what is true of the places of a list and of one number more
+place-last : (l : List ℕ) (x : ℕ) → getD (l ++ (x ∷ [])) (length l) 0 ≡ x
+place-last [] x = refl
+place-last (y ∷ ys) x = place-last ys x
+
+pub at-place : (P : ℕ → Type 0) (l : List ℕ) (x k : ℕ) → k < length (l ++ (x ∷ [])) → (k < length l → P (getD l k 0)) → P x → P (getD (l ++ (x ∷ [])) k 0)
+at-place P l x k on f here = go (decLt k (length l))
+  where
+    go : Dec (k < length l) → P (getD (l ++ (x ∷ [])) k 0)
+    go (yes q) = subst P (sym (List·getD-append l (x ∷ []) 0 k q)) (f q)
+    go (no nq) = let e : k ≡ length l = omega (arith, length-append l (x ∷ [])) in subst P (sym (ap (λ (j : ℕ). getD (l ++ (x ∷ [])) j 0) e ∙ place-last l x)) here
+
+-- what stands in a list stands at a place
+has-some : (l : List ℕ) (x : ℕ) → has l x ≡ true → ((j : ℕ) → j < length l → getD l j 0 ≡ x → ⊥) → ⊥
+unfolding has
+has-some [] x h un = let z : _≡_ {A = ℕ} 0 1 = ap (λ (b : Bool). cond b 1 0) h in omega arith
+has-some (y ∷ ys) x h un = has-some ys x (later (ne-eqb x y (λ e. un 0 (omega arith) (sym e)))) (λ j q e. un (suc j) (omega arith) e)
+  where
+    later : eqb x y ≡ false → has ys x ≡ true
+    later e = rw e at h
+
+-- and before place k where it stands at no place from there on
+pub has-early : (l : List ℕ) (k x : ℕ) → has l x ≡ true → ((j : ℕ) → k ≤ j → j < length l → getD l j 0 ≡ x → ⊥) → has (take k l) x ≡ true
+unfolding has
+has-early l zero x h un = absurd (has-some l x h (λ j q e. un j (omega arith) q e))
+has-early [] (suc k) x h un = h
+has-early (y ∷ ys) (suc k) x h un = go (eqb x y) h (λ g. has-early ys k x g (λ j a b e. un (suc j) (omega arith) (omega arith) e))
+  where
+    go : (b : Bool) → (b || has ys x) ≡ true → (has ys x ≡ true → has (take k ys) x ≡ true) → (b || has (take k ys) x) ≡ true
     go true q ih = refl
     go false q ih = ih q

@@ -7,10 +7,10 @@ use native.Mathlib.Decide.{ℕ-discrete, decLt}
 use borrow.Author.Count.{below-none, below-more}
 use borrow.Author.Tests.{eq-eqb, ne-eqb, lt-ltb, le-ltb}
 use mathlib.Core.Path.{_≡_, refl, ap, sym, _∙_, subst}
-use mathlib.Core.Bool.{Bool, true, false, cond, _&&_}
+use mathlib.Core.Bool.{Bool, true, false, cond, _&&_, _||_}
 use mathlib.Core.List.{List, [], _∷_, _++_}
 use lib.ListN.{length, getD, set, take, replicate, length-set, length-replicate, List·getD-eq-default}
-use lib.Seq.{getD-set-same, getD-set-other}
+use lib.Seq.{getD-set-same, getD-set-other, getD-take, take-take}
 use lib.Dec.{eqb, ltb}
 use Rattle.rules.specs.declared.Links.{Links}
 use Rattle.rules.specs.Table.{Table, cell, has, after, rowLimit}
@@ -18,16 +18,21 @@ use Rattle.rules.specs.Mesh.{joins, arcBetween, linksOf, listOf}
 use Rattle.tables.proofs.Scans.{into-found, into-none}
 use Rattle.lists.proofs.Laws.{after-on}
 use Rattle.pairs.specs.Pairs.{arcsOf, runsAt}
-use Rattle.pairs.specs.Near.{isMarked, Listing, AllFrom, leads, Least, lowerLink, LinkNoted}
+use Rattle.pairs.specs.Near.{isMarked, Listing, Ends, AllFrom, leads, Least, lowerLink, LinkNoted}
 use Rattle.pairs.proofs.Filled.{some-link}
-use Rattle.pairs.proofs.Has.{has-before, has-read}
+use Rattle.pairs.proofs.Below.{or-left, or-right}
+use Rattle.pairs.proofs.Has.{has-before, has-read, has-early}
 use Rattle.pairs.proofs.Listing.{both}
 use Rattle.pairs.proofs.Steps.{item-is}
 use Rattle.pairs.proofs.Pass.{joined, from-none, from-some, from, to, places-told, zeros}
 
 -- an arc that leaves a vertex with a mark
-pub all-from : (arcs : Table) (seen : List Bool) (list : List ℕ) (spare a : ℕ) → Listing arcs seen list spare → isMarked seen a ≡ true → AllFrom arcs list a
-all-from arcs seen list spare a h m x l na e = h .leaving x l (λ z. na (sym e ∙ z)) (subst (λ (v : ℕ). isMarked seen v ≡ true) (sym e) m)
+pub all-from : (arcs : Table) (seen : List Bool) (list : List ℕ) (spare used a : ℕ) → Listing arcs seen list spare used → isMarked seen a ≡ true → AllFrom arcs list a
+all-from arcs seen list spare used a h m x l na e = h .leaving x l (λ z. na (sym e ∙ z)) (subst (λ (v : ℕ). isMarked seen v ≡ true) (sym e) m)
+
+-- stands before place k, where from there on every row is unused
+pub all-early : (arcs : Table) (near : List ℕ) (n used k a : ℕ) → Ends arcs (take n near) used → used ≤ k → k < n → cell arcs (getD near k 0) 0 ≡ 0 → AllFrom arcs (take n near) a → AllFrom arcs (take k near) a
+all-early arcs near n used k a ends from on z all x l na e = rw (take-take k n near (omega arith)) at (has-early (take n near) k x (all x l na e) (λ j b c q. na (sym e ∙ ap (λ (y : ℕ). cell arcs y 0) (sym q) ∙ ends k j from b c (rw (getD-take n near k 0 on) z))))
 
 -- ---- one pair
 
@@ -146,6 +151,28 @@ module _ (f t : List ℕ) (s d x : ℕ) (at₀ : List ℕ) where
     noted-leads es nd = noted-next (rw (eq-eqb s (getD f i 0) es, ne-eqb d (getD t i 0) nd))
 
 -- ---- all pairs
+
+-- none of four
+pub of-none : (f : List ℕ) (s : ℕ) → (eqb s (getD f 0 0) || eqb s (getD f 1 0) || eqb s (getD f 2 0) || eqb s (getD f 3 0)) ≡ false → (i : ℕ) → i < 4 → s ≡ getD f i 0 → ⊥
+of-none f s h i q e = go (ℕ-discrete i 0) (ℕ-discrete i 1) (ℕ-discrete i 2)
+  where
+    is : ℕ → Bool
+    is k = eqb s (getD f k 0)
+
+    three : (is 0 || is 1 || is 2) ≡ false
+    three = or-left (is 0 || is 1 || is 2) (is 3) h
+
+    two : (is 0 || is 1) ≡ false
+    two = or-left (is 0 || is 1) (is 2) three
+
+    differs : (k : ℕ) → i ≡ k → is k ≡ false → ⊥
+    differs k ik un = both (sym (eq-eqb s (getD f k 0) (e ∙ ap (λ (j : ℕ). getD f j 0) ik)) ∙ un)
+
+    go : Dec (i ≡ 0) → Dec (i ≡ 1) → Dec (i ≡ 2) → ⊥
+    go (yes z) b c = differs 0 z (or-left (is 0) (is 1) two)
+    go (no a) (yes z) c = differs 1 z (or-right (is 0) (is 1) two)
+    go (no a) (no b) (yes z) = differs 2 z (or-right (is 0 || is 1) (is 2) three)
+    go (no a) (no b) (no c) = differs 3 (omega arith) (or-right (is 0 || is 1 || is 2) (is 3) h)
 
 -- where they lead, by the array that holds the perimeter
 pub ends-are : (per : Links) (n : ℕ) (t : List ℕ) → n ≡ length (listOf per) → ((j : ℕ) → j < n → getD t j 0 ≡ getD (per .at) (after n j) 0) → (i : ℕ) → i < length (listOf per) → getD t i 0 ≡ to (listOf per) i

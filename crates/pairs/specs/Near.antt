@@ -4,23 +4,36 @@ use Prim.Native.Nat.{ℕ, _+_, _%_, _≤_, _<_}
 use mathlib.Core.Path.{_≡_}
 use mathlib.Core.Bool.{Bool, true, false, _&&_, cond}
 use mathlib.Core.List.{List, []}
-use lib.ListN.{length, getD}
+use lib.ListN.{length, getD, take}
 use lib.Dec.{eqb, ltb}
 use Rattle.rules.specs.Table.{Table, cell, has, unused, rowLimit}
 use Rattle.pairs.specs.Pairs.{markCount, runsAt}
+use Rattle.pairs.specs.declared.near.Nearby.{Nearby}
 
 -- a vertex has a mark
 abbrev pub isMarked : List Bool → ℕ → Bool
 isMarked seen v = getD seen (v % markCount) false
 
--- every arc that leaves a vertex with a mark is listed, and every unused row up to the spare one
-pub record Listing (arcs : Table) (seen : List Bool) (list : List ℕ) (spare : ℕ) : Type 0 where
+-- from place `used` on, an unused row is followed by unused rows only
+abbrev pub Ends : Table → List ℕ → ℕ → Type 0
+Ends arcs list used = (k j : ℕ) → used ≤ k → k ≤ j → j < length list → cell arcs (getD list k 0) 0 ≡ 0 → cell arcs (getD list j 0) 0 ≡ 0
+
+-- from place `used` on the list names rows up to i, in their order
+pub record Rising (list : List ℕ) (used i : ℕ) : Type 0 where
+  pub named : (k : ℕ) → used ≤ k → k < length list → (1 ≤ getD list k 0) × (getD list k 0 ≤ i)
+  pub ordered : (k j : ℕ) → used ≤ k → k ≤ j → j < length list → getD list k 0 ≤ getD list j 0
+
+-- every arc that leaves a vertex with a mark is listed, and every unused row up to the spare one; from place `used` on only rows that new arcs take
+-- one after the other
+pub record Listing (arcs : Table) (seen : List Bool) (list : List ℕ) (spare used : ℕ) : Type 0 where
   pub leaving : (x : ℕ) → x ≤ length arcs → (cell arcs x 0 ≡ 0 → ⊥) → isMarked seen (cell arcs x 0) ≡ true → has list x ≡ true
   pub free : (x : ℕ) → 1 ≤ x → x ≤ spare → cell arcs x 0 ≡ 0 → has list x ≡ true
+  pub rising : Rising list used (length arcs)
+  pub ends : Ends arcs list used
 
 -- that is so if there is a spare row and it is still unused
-abbrev pub Near : Table → List Bool → List ℕ → ℕ → Type 0
-Near arcs seen list spare = 1 ≤ spare → spare ≤ length arcs → cell arcs spare 0 ≡ 0 → Listing arcs seen list spare
+abbrev pub Near : Table → List Bool → List ℕ → Nearby → Type 0
+Near arcs seen near by = 1 ≤ by .spare → by .spare ≤ length arcs → cell arcs (by .spare) 0 ≡ 0 → Listing arcs seen (take (by .len) near) (by .spare) (by .used)
 
 -- n is t with unused rows taken from the lowest on: a used row keeps its first cell, and from a row on that is still unused so does every row
 pub record FilledUp (t n : Table) : Type 0 where
@@ -39,13 +52,15 @@ abbrev pub Onward : Table → List Bool → ℕ → ℕ → ℕ → Type 0
 Onward arcs seen left i r = (i ≤ r) × ((r ≤ length arcs) × ((j : ℕ) → i ≤ j → j < r → Passable seen left (getD (getD arcs j []) 0 0)))
 
 -- what stands in the list after i rows, with so many unused rows left to list: the used rows with a mark, and the unused rows up to the spare one,
--- or all of them while some are left; no row before the first is unused
-pub record ListedTo (arcs : Table) (seen : List Bool) (list : List ℕ) (i spare first left : ℕ) : Type 0 where
+-- or all of them while some are left; no row before the first is unused, and from place `used` on every row is
+pub record ListedTo (arcs : Table) (seen : List Bool) (list : List ℕ) (i spare first left used : ℕ) : Type 0 where
   pub leaving : (j : ℕ) → j < i → (getD (getD arcs j []) 0 0 ≡ 0 → ⊥) → isMarked seen (getD (getD arcs j []) 0 0) ≡ true → has list (j + 1) ≡ true
   pub free : (j : ℕ) → j < i → (left ≡ 0 → j < spare) → getD (getD arcs j []) 0 0 ≡ 0 → has list (j + 1) ≡ true
   pub reached : spare ≤ i
   pub before : (j : ℕ) → j + 1 < first → unused (getD arcs j []) ≡ false
   pub none : first ≡ 0 → (left ≡ 0 → ⊥) → (j : ℕ) → j < i → unused (getD arcs j []) ≡ false
+  pub rising : Rising list used i
+  pub taken-none : (k : ℕ) → used ≤ k → k < length list → cell arcs (getD list k 0) 0 ≡ 0
 
 -- ---- the lookup
 

@@ -14,19 +14,21 @@ ghost use mathlib.Core.Bool.{Bool, true, false};
 ghost use mathlib.Core.List.{List, _∷_, _++_, []};
 ghost use Prim.Native.Nat.{ℕ, _+_, _<_, _≤_};
 ghost use lib.ListN.{length, getD, set, take};
-ghost use Rattle.rules.specs.Table.{unused, after};
+ghost use Rattle.rules.specs.Table.{cell, unused, after};
 ghost use Rattle.rules.specs.Mesh.{linksOf, listOf, arcBetween};
 ghost use Rattle.pairs.specs.Pairs.{arcsOf, markedAt};
-ghost use Rattle.pairs.specs.Near.{isMarked, Near, Onward, ListedTo, Tells, AllFrom, Least, lowerLink, LinkNoted};
+ghost use Rattle.pairs.specs.Near.{isMarked, Near, Onward, ListedTo, Tells, Ends, AllFrom, Least, lowerLink, LinkNoted};
 
 // How many links a list holds.
 pub const NEAR: usize = 1024;
 
-// How many links are listed, the last unused row among them, and the lowest unused row; all 0 where the list tells nothing.
+// How many links are listed, the last unused row among them, the lowest unused row, and how many links are listed up to the last used row; all 0
+// where the list tells nothing.
 pub struct Nearby {
     pub len: usize,
     pub spare: u32,
     pub first: u32,
+    pub used: usize,
 }
 
 // The same during the pass, and how many unused rows are left to list.
@@ -34,6 +36,7 @@ struct Met {
     len: usize,
     spare: u32,
     first: u32,
+    used: usize,
     left: usize,
 }
 
@@ -83,7 +86,7 @@ fn onward(
 // Row i listed, but an unused row only while such are left to list.
 fn meet(near: &mut [u32; NEAR], arcs: &[ArcRow], i: usize, m: Met) -> Met
     requires { ⌜ (i < length (now arcs)) × ((length (now arcs) ≤ 16384) × (m .len < 1024)) ⌝ }
-    ensures { λ r. ⌜ ((seen : List Bool) → ListedTo (now (arcs .entry)) seen (take (m .len) (now (near .entry))) i (m .spare) (m .first) (m .left) → ListedTo (now (arcs .entry)) seen (take (r .len) (now (near .exit))) (i + 1) (r .spare) (r .first) (r .left)) ⌝ }
+    ensures { λ r. ⌜ ((seen : List Bool) → ListedTo (now (arcs .entry)) seen (take (m .len) (now (near .entry))) i (m .spare) (m .first) (m .left) (m .used) → ListedTo (now (arcs .entry)) seen (take (r .len) (now (near .exit))) (i + 1) (r .spare) (r .first) (r .left) (r .used)) ⌝ }
 {
     known_near(*near);
     let x = i as u32 + 1;
@@ -94,6 +97,7 @@ fn meet(near: &mut [u32; NEAR], arcs: &[ArcRow], i: usize, m: Met) -> Met
             len: n + 1,
             spare: m.spare,
             first: m.first,
+            used: n + 1,
             left: m.left,
         };
     }
@@ -105,6 +109,7 @@ fn meet(near: &mut [u32; NEAR], arcs: &[ArcRow], i: usize, m: Met) -> Met
         len: n + 1,
         spare: x,
         first: crate::or_else(m.first, x),
+        used: m.used,
         left: left - 1,
     }
 }
@@ -116,13 +121,14 @@ pub fn list_near(
     seen: &[bool; MARKS],
     rows: usize,
 ) -> Nearby
-    ensures { λ r. ⌜ Near (now (arcs .entry)) (now (seen .entry)) (take (r .len) (now (near .exit))) (r .spare) × ((k : ℕ) → k + 1 < r .first → unused (getD (now (arcs .entry)) k []) ≡ false) ⌝ }
+    ensures { λ r. ⌜ Near (now (arcs .entry)) (now (seen .entry)) (now (near .exit)) r × ((k : ℕ) → k + 1 < r .first → unused (getD (now (arcs .entry)) k []) ≡ false) ⌝ }
 {
     if arcs.len() > ROW_LIMIT {
         return Nearby {
             len: 0,
             spare: 0,
             first: 0,
+            used: 0,
         };
     }
     known_marks(*seen);
@@ -132,6 +138,7 @@ pub fn list_near(
         len: 0,
         spare: 0,
         first: 0,
+        used: 0,
         left: rows,
     };
     let mut i = onward(arcs, seen, &marks, rows, 0);
@@ -141,6 +148,7 @@ pub fn list_near(
                 len: 0,
                 spare: 0,
                 first: 0,
+                used: 0,
             };
         }
         m = meet(near, arcs, i, m);
@@ -150,6 +158,7 @@ pub fn list_near(
         len: m.len,
         spare: m.spare,
         first: m.first,
+        used: m.used,
     }
 }
 
@@ -218,9 +227,19 @@ fn lesser(arcs: &[ArcRow], a: u32, b: u32, m: u32, x: u32) -> u32
     lower(m, x)
 }
 
+// Whether the lookup ends at place k, which names row x: it is unused, and only rows are listed from there on that new arcs take one after the other.
+fn ended(arcs: &[ArcRow], x: u32, used: usize, k: usize) -> bool
+    ensures { λ r. ⌜ (r ≡ true → (used ≤ k) × (cell (now (arcs .entry)) x 0 ≡ 0)) ⌝ }
+{
+    if k < used {
+        return false;
+    }
+    rows::cell6(arcs, x, 0) == 0
+}
+
 // The arc from a to b, by n listed links among which is every arc that leaves a.
-fn arc_listed(arcs: &[ArcRow], near: &[u32; NEAR], n: usize, a: u32, b: u32) -> u32
-    requires { ⌜ (n ≤ 1024) × ((length (now arcs) ≤ 16384) × AllFrom (now arcs) (take n (now near)) a) ⌝ }
+fn arc_listed(arcs: &[ArcRow], near: &[u32; NEAR], n: usize, used: usize, a: u32, b: u32) -> u32
+    requires { ⌜ (n ≤ 1024) × ((length (now arcs) ≤ 16384) × (Ends (now arcs) (take n (now near)) used × AllFrom (now arcs) (take n (now near)) a)) ⌝ }
     ensures { λ r. ⌜ r ≡ arcBetween (now (arcs .entry)) a b ⌝ }
 {
     if a == 0 {
@@ -229,7 +248,11 @@ fn arc_listed(arcs: &[ArcRow], near: &[u32; NEAR], n: usize, a: u32, b: u32) -> 
     let mut m: u32 = 0;
     let mut k: usize = 0;
     while k < n {
-        m = lesser(arcs, a, b, m, near[k]);
+        let x = near[k];
+        if ended(arcs, x, used, k) {
+            return m;
+        }
+        m = lesser(arcs, a, b, m, x);
         k += 1;
     }
     m
@@ -275,10 +298,45 @@ fn note_listed(
     }
 }
 
-// The arcs of all pairs in order, in one pass over n listed links among which is every arc that leaves one of the vertices. The vertices are
-// marked first, and only an arc whose source has a mark is compared with the pairs.
-fn arcs_listed(arcs: &[ArcRow], per: Links, near: &[u32; NEAR], n: usize) -> Links
-    requires { ⌜ (n ≤ 1024) × ((length (now arcs) ≤ 16384) × ((i : ℕ) → i < length (listOf per) → AllFrom (now arcs) (take n (now near)) (getD (listOf per) i 0))) ⌝ }
+// Whether s is one of the first four vertices.
+fn of_four(from: &[u32; RING], s: u32) -> bool
+    ensures { λ r. ⌜ (r ≡ false → (i : ℕ) → i < 4 → s ≡ getD (now (from .entry)) i 0 → ⊥) ⌝ }
+{
+    (s == from[0]) | (s == from[1]) | (s == from[2]) | (s == from[3])
+}
+
+// The arcs of all pairs in order, of four at most, in one pass over n listed links among which is every arc that leaves one of the vertices. Only an
+// arc whose source is one of them is compared with the pairs.
+fn few_listed(arcs: &[ArcRow], per: Links, near: &[u32; NEAR], n: usize, used: usize) -> Links
+    requires { ⌜ (n ≤ 1024) × ((length (now arcs) ≤ 16384) × (Ends (now arcs) (take n (now near)) used × ((i : ℕ) → i < length (listOf per) → AllFrom (now arcs) (take n (now near)) (getD (listOf per) i 0)))) ⌝ }
+    requires { ⌜ length (listOf per) ≤ 4 ⌝ }
+    ensures { λ r. ⌜ r ≡ linksOf (arcsOf (now (arcs .entry)) (listOf per)) ⌝ }
+{
+    let size = lists::size(per);
+    let from = per.at;
+    let to = ends(per);
+    let mut at = [0u32; RING];
+    let mut k: usize = 0;
+    while k < n {
+        let x = near[k];
+        let s = rows::cell6(arcs, x, 0);
+        if s == 0 {
+            if k >= used {
+                return Links { at, len: size };
+            }
+        } else {
+            if of_four(&from, s) {
+                note_listed(&mut at, &from, &to, size, s, rows::cell6(arcs, x, 1), x);
+            }
+        }
+        k += 1;
+    }
+    Links { at, len: size }
+}
+
+// The same for any number of pairs. The vertices are marked first, and only an arc whose source has a mark is compared with the pairs.
+fn arcs_listed(arcs: &[ArcRow], per: Links, near: &[u32; NEAR], n: usize, used: usize) -> Links
+    requires { ⌜ (n ≤ 1024) × ((length (now arcs) ≤ 16384) × (Ends (now arcs) (take n (now near)) used × ((i : ℕ) → i < length (listOf per) → AllFrom (now arcs) (take n (now near)) (getD (listOf per) i 0)))) ⌝ }
     ensures { λ r. ⌜ r ≡ linksOf (arcsOf (now (arcs .entry)) (listOf per)) ⌝ }
 {
     let size = lists::size(per);
@@ -292,7 +350,11 @@ fn arcs_listed(arcs: &[ArcRow], per: Links, near: &[u32; NEAR], n: usize) -> Lin
     while k < n {
         let x = near[k];
         let s = rows::cell6(arcs, x, 0);
-        if s != 0 {
+        if s == 0 {
+            if k >= used {
+                return Links { at, len: size };
+            }
+        } else {
             if seen[rows::wide(s) % MARKS] {
                 note_listed(&mut at, &from, &to, size, s, rows::cell6(arcs, x, 1), x);
             }
@@ -310,12 +372,15 @@ pub fn perimeter_arcs_near(
     near: &[u32; NEAR],
     by: Nearby,
 ) -> Links
-    requires { ⌜ Near (now arcs) (now seen) (take (by .len) (now near)) (by .spare) ⌝ }
+    requires { ⌜ Near (now arcs) (now seen) (now near) by ⌝ }
     ensures { λ r. ⌜ r ≡ linksOf (arcsOf (now (arcs .entry)) (listOf per)) ⌝ }
 {
     if tells(arcs, by) {
         if all_marked(seen, per) {
-            return arcs_listed(arcs, per, near, by.len);
+            if lists::size(per) <= 4 {
+                return few_listed(arcs, per, near, by.len, by.used);
+            }
+            return arcs_listed(arcs, per, near, by.len, by.used);
         }
     }
     crate::perimeter_arcs(arcs, per)
@@ -330,12 +395,12 @@ pub fn arc_between_near(
     near: &[u32; NEAR],
     by: Nearby,
 ) -> u32
-    requires { ⌜ Near (now arcs) (now seen) (take (by .len) (now near)) (by .spare) ⌝ }
+    requires { ⌜ Near (now arcs) (now seen) (now near) by ⌝ }
     ensures { λ r. ⌜ r ≡ arcBetween (now (arcs .entry)) a b ⌝ }
 {
     if tells(arcs, by) {
         if seen[rows::wide(a) % MARKS] {
-            return arc_listed(arcs, near, by.len, a, b);
+            return arc_listed(arcs, near, by.len, by.used, a, b);
         }
     }
     rows::find_arc(arcs, a, b)

@@ -22,7 +22,7 @@ ghost use mathlib.Core.Path.{_≡_};
 ghost use mathlib.Core.Bool.{true};
 ghost use mathlib.Core.List.{List};
 ghost use Prim.Native.Nat.{ℕ, _≤_};
-ghost use lib.ListN.{length, take};
+ghost use lib.ListN.{length};
 ghost use lib.Ieee.{Float};
 ghost use Rattle.rules.specs.Table.{Table, count, used};
 ghost use Rattle.rules.specs.Mesh.{mesh, listOf};
@@ -217,7 +217,7 @@ fn half_checks(
     near: &[u32; NEAR],
     by: Nearby,
 ) -> Answer
-    requires { ⌜ Near (now arcs) (now seen) (take (by .len) (now near)) (by .spare) ⌝ }
+    requires { ⌜ Near (now arcs) (now seen) (now near) by ⌝ }
     ensures { λ r. ⌜ ((vs : Table) (ps : List (List Float)) (es fs : Table) (ks : List ℕ) → r ≡ insertChecks (mesh vs ps (now (arcs .entry)) es fs ks) (listOf half) (listOf half)) ⌝ }
 {
     lists::known_few(half);

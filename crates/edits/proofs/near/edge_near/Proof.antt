@@ -1,7 +1,6 @@
 -- `edits::near::edge_near` meets its contract: the edge is there, or is made, and the list still tells. Assumes nothing.
 use mathlib.Core.Path.{sym, subst}
 use mathlib.Core.List.{[]}
-use lib.ListN.{take}
 use Rattle.rules.specs.Mesh.{Mesh, mesh}
 use Rattle.rules.specs.Link.{newEdge}
 use Rattle.pairs.proofs.Filled.{near-stays}
@@ -33,7 +32,7 @@ arc-between-near-requires-2 c κs =
     let m : Mesh = mesh (a .vertices .now) [] (a .arcs .now) (a .edges .now) [] (a .counters .now) in
     let n : Mesh = mesh (g .last .0) [] (g .last .1 .0) (g .last .1 .1 .0) [] (g .last .1 .1 .1 .0) in
     let filled : Filled m n = subst (Filled m) (sym (g .ensures .1 [] [])) (filled-edge m (a .a) (a .b)) in
-    near-stays (m .arcs) (n .arcs) (a .seen .now) (take (a .around .by .len) (a .near .now)) (a .around .by .spare) (filled .arcs) (c .before .before .before .before .before .before .before .before .before .before .before .before .before .before .pre .0)
+    near-stays (m .arcs) (n .arcs) (a .seen .now) (a .near .now) (a .around .by) (filled .arcs) (c .before .before .before .before .before .before .before .before .before .before .before .before .before .before .pre .0)
 
 same-length-2 : tie.Need-same-length-2
 same-length-2 c = c .before .before .before .before .before .new-edge-from .kept .0

@@ -6,16 +6,16 @@ use Prim.Native.Nat.{ℕ, _-_, _≤_}
 use native.Mathlib.Omega.{arith}
 use lib.ListN.{take}
 use Rattle.pairs.specs.Near.{Least}
-use Rattle.pairs.proofs.Lookup.{least-start, least-read, least-is}
+use Rattle.pairs.proofs.Lookup.{all-early, least-start, least-read, least-is}
 use borrow.Author.Needs.{needs}
 use Rattle.pairs.proofs.near.arc_listed.Statement.{statement}
 use Rattle.pairs.proofs.near.arc_listed.Tie as tie
 
 abbrev Inv-loop : tie.InvT-loop
-Inv-loop arcs near n a b m₀ k₀ m k = (k ≤ n) × Least arcs a b (take k near) m
+Inv-loop arcs near n used a b m₀ k₀ m k = (k ≤ n) × Least arcs a b (take k near) m
 
 abbrev μ-loop : tie.MeasureT-loop
-μ-loop arcs near n a b m₀ k₀ m k = n - k
+μ-loop arcs near n used a b m₀ k₀ m k = n - k
 
 returns : tie.Need-returns Inv-loop μ-loop
 returns c = from-none _ _ _ (c .if1 .taken)
@@ -25,11 +25,23 @@ loop-holds c =
     let a = c .before .args in
     (search needs, least-start (a .arcs .now) (a .a) (a .b))
 
-mul-lesser : tie.Need-mul-lesser Inv-loop μ-loop
-mul-lesser c = search needs
+mul-x : tie.Need-mul-x Inv-loop μ-loop
+mul-x c = search needs
 
-element-copy-out-lesser : tie.Need-element-copy-out-lesser Inv-loop μ-loop
-element-copy-out-lesser c = search needs
+element-copy-out-x : tie.Need-element-copy-out-x Inv-loop μ-loop
+element-copy-out-x c = search needs
+
+ended-requires : tie.Need-ended-requires Inv-loop μ-loop
+ended-requires c κs = search needs
+
+returns-2 : tie.Need-returns-2 Inv-loop μ-loop
+returns-2 c =
+    let l = c .before .before .before .before in
+    let s = l .before .before in
+    let a = s .args in
+    let end = c .before .ended .ensures (c .if2 .taken) in
+    let all = all-early (a .arcs .now) (a .near .now) (a .n) (a .used) (l .loop .k) (a .a) (s .pre .1 .1 .0) (end .0) (c .before .before .before .loop-test .taken) (end .1) (s .pre .1 .1 .1) in
+    least-is (a .arcs .now) (a .a) (a .b) (take (l .loop .k) (a .near .now)) (l .loop .m) (l .before .if1 .left) (s .pre .1 .0) all (l .loop .inv .1)
 
 lesser-requires : tie.Need-lesser-requires Inv-loop μ-loop
 lesser-requires c κs = search needs
@@ -42,18 +54,18 @@ loop-less c = search needs
 
 loop-again : tie.Need-loop-again Inv-loop μ-loop
 loop-again c =
-    let l = c .before .before .before in
+    let l = c .before .before .before .before .before in
     let a = l .before .before .args in
     let k = l .loop .k in
     (search needs, least-read (a .arcs .now) (a .a) (a .b) (a .near .now) k (c .lesser .result) (c .lesser .ensures (take k (a .near .now)) (l .loop .inv .1)))
 
-returns-2 : tie.Need-returns-2 Inv-loop μ-loop
-returns-2 c =
+returns-3 : tie.Need-returns-3 Inv-loop μ-loop
+returns-3 c =
     let l = c .before in
     let s = l .before .before in
     let a = s .args in
     let all : l .loop .k ≡ a .n = omega arith in
-    least-is (a .arcs .now) (a .a) (a .b) (take (a .n) (a .near .now)) (l .loop .m) (l .before .if1 .left) (s .pre .1 .0) (s .pre .1 .1) (rw all at (l .loop .inv .1))
+    least-is (a .arcs .now) (a .a) (a .b) (take (a .n) (a .near .now)) (l .loop .m) (l .before .if1 .left) (s .pre .1 .0) (s .pre .1 .1 .1) (rw all at (l .loop .inv .1))
 
 pub arc-listed-spec : {M : Type 1} → statement M
 arc-listed-spec =
@@ -63,10 +75,12 @@ arc-listed-spec =
     μ-loop
     returns
     loop-holds
-    mul-lesser
-    element-copy-out-lesser
+    mul-x
+    element-copy-out-x
+    ended-requires
+    returns-2
     lesser-requires
     add-k
     loop-less
     loop-again
-    returns-2)
+    returns-3)

@@ -8,16 +8,16 @@ use Rattle.rules.specs.Mesh.{listOf}
 use Rattle.pairs.specs.Pairs.{marksOf}
 use Rattle.pairs.proofs.Pass.{unmarked}
 use Rattle.pairs.proofs.Steps.{item-is}
-use Rattle.pairs.proofs.Lookup.{Sought, sought-start, sought-skip, sought-note, sought-read, sought-end}
+use Rattle.pairs.proofs.Lookup.{all-early, Sought, sought-start, sought-skip, sought-note, sought-read, sought-end}
 use borrow.Author.Needs.{needs}
 use Rattle.pairs.proofs.near.arcs_listed.Statement.{statement}
 use Rattle.pairs.proofs.near.arcs_listed.Tie as tie
 
 abbrev Inv-loop : tie.InvT-loop
-Inv-loop arcs near n size from to seen at₀ k₀ at k = (k ≤ n) × Sought arcs from to size (take k near) at
+Inv-loop arcs near n used size from to seen at₀ k₀ at k = (k ≤ n) × Sought arcs from to size (take k near) at
 
 abbrev μ-loop : tie.MeasureT-loop
-μ-loop arcs near n size from to seen at₀ k₀ at k = n - k
+μ-loop arcs near n used size from to seen at₀ k₀ at k = n - k
 
 size-requires : tie.Need-size-requires Inv-loop μ-loop
 size-requires c κs = search needs
@@ -43,11 +43,23 @@ element-copy-out-x c = search needs
 cell6-requires : tie.Need-cell6-requires Inv-loop μ-loop
 cell6-requires c κs = search needs
 
+returns : tie.Need-returns Inv-loop μ-loop
+returns c =
+    let l = c .before .before .before .before .before in
+    let e = l .before .before .before in
+    let k = e .before .before in
+    let s = k .before .before in
+    let a = s .args in
+    let arcs = a .arcs .now in
+    let size = k .before .size in
+    let unused = sym (c .before .before .cell6 .ensures) ∙ c .before .if1 .taken in
+    sought-end arcs (a .per .at) (e .ends .result) (size .result) (listOf (a .per)) (size .ensures) (item-is (a .per)) (e .ends .ensures) (take (l .loop .k) (a .near .now)) (l .loop .at) (k .known-few .ensures) (s .pre .1 .0) (λ i q. all-early arcs (a .near .now) (a .n) (a .used) (l .loop .k) (getD (listOf (a .per)) i 0) (s .pre .1 .1 .0) (c .if2 .taken) (c .before .before .before .before .loop-test .taken) unused (s .pre .1 .1 .1 i q)) (l .loop .inv .1)
+
 wide-requires : tie.Need-wide-requires Inv-loop μ-loop
 wide-requires c κs = search needs
 
-array-read-if2 : tie.Need-array-read-if2 Inv-loop μ-loop
-array-read-if2 c = search needs
+array-read-if3 : tie.Need-array-read-if3 Inv-loop μ-loop
+array-read-if3 c = search needs
 
 cell6-requires-2 : tie.Need-cell6-requires-2 Inv-loop μ-loop
 cell6-requires-2 c κs = search needs
@@ -82,13 +94,13 @@ loop-again c =
     let few : size .result ≤ 64 = omega (arith, k .known-few .ensures, size .ensures) in (
       search needs,
       sought-read arcs f t (size .result) near (l .loop .k) (c .if1 .at)
-          (⊎-elim (λ w. rw (w .8) (sought-note arcs f t (size .result) list x (l .loop .at) (l .loop .inv .1) (s .result) (w .6 .result) (w .7 .last .0) few (s .ensures) (w .6 .ensures) (w .0 .taken) (w .7 .ensures)))
-          (⊎-elim (λ w. rw (w .3) (sought-skip arcs f t (size .result) list x (l .loop .at) (l .loop .inv .1) (λ i q ne e. unmarked per (s .result) (rw (← m .mark .ensures, ← w .1 .ensures) (w .2 .left)) i (omega (arith, size .ensures)) (s .ensures ∙ e ∙ item-is (a .per) i (omega (arith, size .ensures))))))
-          (λ w. rw (w .1) (sought-skip arcs f t (size .result) list x (l .loop .at) (l .loop .inv .1) (λ i q ne e. ne (sym e ∙ sym (s .ensures) ∙ w .0 .left))))) (c .if1 .came)),
+          (⊎-elim (λ w. rw (w .2) (sought-skip arcs f t (size .result) list x (l .loop .at) (l .loop .inv .1) (λ i q ne e. ne (sym e ∙ sym (s .ensures) ∙ w .0 .taken))))
+          (⊎-elim (λ w. rw (w .8) (sought-note arcs f t (size .result) list x (l .loop .at) (l .loop .inv .1) (s .result) (w .6 .result) (w .7 .last .0) few (s .ensures) (w .6 .ensures) (w .0 .left) (w .7 .ensures)))
+          (λ w. rw (w .3) (sought-skip arcs f t (size .result) list x (l .loop .at) (l .loop .inv .1) (λ i q ne e. unmarked per (s .result) (rw (← m .mark .ensures, ← w .1 .ensures) (w .2 .left)) i (omega (arith, size .ensures)) (s .ensures ∙ e ∙ item-is (a .per) i (omega (arith, size .ensures))))))) (c .if1 .came)),
     )
 
-returns : tie.Need-returns Inv-loop μ-loop
-returns c =
+returns-2 : tie.Need-returns-2 Inv-loop μ-loop
+returns-2 c =
     let l = c .before in
     let e = l .before .before .before in
     let k = e .before .before in
@@ -96,7 +108,7 @@ returns c =
     let a = s .args in
     let size = k .before .size in
     let all : l .loop .k ≡ a .n = omega arith in
-    sought-end (a .arcs .now) (a .per .at) (e .ends .result) (size .result) (listOf (a .per)) (size .ensures) (item-is (a .per)) (e .ends .ensures) (take (a .n) (a .near .now)) (l .loop .at) (k .known-few .ensures) (s .pre .1 .0) (s .pre .1 .1) (rw all at (l .loop .inv .1))
+    sought-end (a .arcs .now) (a .per .at) (e .ends .result) (size .result) (listOf (a .per)) (size .ensures) (item-is (a .per)) (e .ends .ensures) (take (a .n) (a .near .now)) (l .loop .at) (k .known-few .ensures) (s .pre .1 .0) (s .pre .1 .1 .1) (rw all at (l .loop .inv .1))
 
 pub arcs-listed-spec : {M : Type 1} → statement M
 arcs-listed-spec =
@@ -112,11 +124,12 @@ arcs-listed-spec =
     mul-x
     element-copy-out-x
     cell6-requires
+    returns
     wide-requires
-    array-read-if2
+    array-read-if3
     cell6-requires-2
     note-listed-requires
     add-k
     loop-less
     loop-again
-    returns)
+    returns-2)

@@ -4,21 +4,19 @@ use Prim.Native.Nat.{_+_, _-_, _≤_}
 use native.Mathlib.Omega.{arith}
 use lib.ListN.{length, take}
 use Rattle.pairs.specs.Near.{ListedTo}
-use Rattle.pairs.proofs.Listing.{listed-start, listed-run, listed-end, near-nothing}
+use Rattle.pairs.proofs.Listing.{listed-start, listed-run, listed-end}
 use borrow.Author.Needs.{needs}
 use Rattle.pairs.proofs.near.list_near.Statement.{statement}
 use Rattle.pairs.proofs.near.list_near.Tie as tie
 
 abbrev Inv-loop : tie.InvT-loop
-Inv-loop near₀ arcs seen rows marks m₀ i₀ near m i = (i ≤ length arcs) × ListedTo arcs seen (take (m .len) near) i (m .spare) (m .first) (m .left)
+Inv-loop near₀ arcs seen rows marks m₀ i₀ near m i = (i ≤ length arcs) × ListedTo arcs seen (take (m .len) near) i (m .spare) (m .first) (m .left) (m .used)
 
 abbrev μ-loop : tie.MeasureT-loop
 μ-loop near₀ arcs seen rows marks m₀ i₀ near m i = length arcs - i
 
 returns : tie.Need-returns Inv-loop μ-loop
-returns c =
-    let a = c .before .args in
-    (near-nothing (a .arcs .now) (a .seen .now) _, λ k q. absurd (omega arith))
+returns c = (λ some. absurd (omega arith), λ k q. absurd (omega arith))
 
 known-marks-requires : tie.Need-known-marks-requires Inv-loop μ-loop
 known-marks-requires c κs = search needs
@@ -33,12 +31,10 @@ loop-holds : tie.Need-loop-holds Inv-loop μ-loop
 loop-holds c =
     let a = c .before .before .before .before .before .before .args in
     let o = c .onward in
-    (o .ensures .1 .0, listed-run (a .arcs .now) (a .seen .now) [] 0 (o .result) 0 0 (a .rows) (o .ensures) (listed-start (a .arcs .now) (a .seen .now) (a .rows)))
+    (o .ensures .1 .0, listed-run (a .arcs .now) (a .seen .now) [] 0 (o .result) 0 0 (a .rows) 0 (o .ensures) (listed-start (a .arcs .now) (a .seen .now) (a .rows)))
 
 returns-2 : tie.Need-returns-2 Inv-loop μ-loop
-returns-2 c =
-    let a = c .before .before .before .before .before .before .before .before .before .before .args in
-    (near-nothing (a .arcs .now) (a .seen .now) _, λ k q. absurd (omega arith))
+returns-2 c = (λ some. absurd (omega arith), λ k q. absurd (omega arith))
 
 meet-requires : tie.Need-meet-requires Inv-loop μ-loop
 meet-requires c κs = search needs
@@ -59,14 +55,14 @@ loop-again c =
     let l = c .before .before .before .before .before .before .before in
     let a = l .before .before .before .before .before .before .before .args in
     let seen = a .seen .now in
-    (o .ensures .1 .0, listed-run (a .arcs .now) seen (take (m .result .len) (m .last .0)) (l .loop .i + 1) (o .result) (m .result .spare) (m .result .first) (m .result .left) (o .ensures) (m .ensures seen (l .loop .inv .1)))
+    (o .ensures .1 .0, listed-run (a .arcs .now) seen (take (m .result .len) (m .last .0)) (l .loop .i + 1) (o .result) (m .result .spare) (m .result .first) (m .result .left) (m .result .used) (o .ensures) (m .ensures seen (l .loop .inv .1)))
 
 returns-3 : tie.Need-returns-3 Inv-loop μ-loop
 returns-3 c =
     let l = c .before in
     let a = l .before .before .before .before .before .before .before .args in
     let m = l .loop .m in
-    (listed-end (a .arcs .now) (a .seen .now) (take (m .len) (l .loop .near)) (l .loop .i) (m .spare) (m .first) (m .left) (c .loop-test .left) (l .loop .inv .1), l .loop .inv .1 .before)
+    (listed-end (a .arcs .now) (a .seen .now) (l .loop .near) (record { len = m .len; spare = m .spare; first = m .first; used = m .used }) (l .loop .i) (m .left) (l .loop .inv .0) (c .loop-test .left) (l .loop .inv .1), l .loop .inv .1 .before)
 
 pub list-near-spec : {M : Type 1} → statement M
 list-near-spec =

@@ -1,4 +1,5 @@
 -- `pairs::near::perimeter_arcs_near` meets its contract: the list tells, or a pass does; laws of Lookup. Assumes nothing.
+use native.Mathlib.Omega.{arith}
 use lib.ListN.{getD, take}
 use Rattle.rules.specs.Mesh.{listOf}
 use Rattle.pairs.proofs.Lookup.{all-from}
@@ -12,24 +13,38 @@ tells-requires c κs = search needs
 all-marked-requires : tie.Need-all-marked-requires
 all-marked-requires c κs = search needs
 
-arcs-listed-requires : tie.Need-arcs-listed-requires
-arcs-listed-requires c κs =
-    let s = c .before .before .before .before in
+size-requires : tie.Need-size-requires
+size-requires c κs = search needs
+
+few-listed-requires : tie.Need-few-listed-requires
+few-listed-requires c κs =
+    let s = c .before .before .before .before .before .before in
     let a = s .args in
-    let t = c .before .before .before .tells .ensures (c .before .before .if1 .taken) in
-    let m = c .before .all-marked .ensures (c .if2 .taken) in
-    let per = listOf (a .per) in
+    let t = c .before .before .before .before .before .tells .ensures (c .before .before .before .before .if1 .taken) in
+    let m = c .before .before .before .all-marked .ensures (c .before .before .if2 .taken) in
     let listing = s .pre (t .some) (t .within) (t .free) in
-    (t .few, (t .fits, λ i q. all-from (a .arcs .now) (a .seen .now) (take (a .by .len) (a .near .now)) (a .by .spare) (getD per i 0) listing (m i q)))
+    ((t .few, (t .fits, (listing .ends, λ i q. all-from (a .arcs .now) (a .seen .now) (take (a .by .len) (a .near .now)) (a .by .spare) (a .by .used) (getD (listOf (a .per)) i 0) listing (m i q)))), omega (arith, c .before .size .ensures))
 
 returns : tie.Need-returns
-returns c = c .arcs-listed .ensures
+returns c = c .few-listed .ensures
+
+arcs-listed-requires : tie.Need-arcs-listed-requires
+arcs-listed-requires c κs =
+    let s = c .before .before .before .before .before .before in
+    let a = s .args in
+    let t = c .before .before .before .before .before .tells .ensures (c .before .before .before .before .if1 .taken) in
+    let m = c .before .before .before .all-marked .ensures (c .before .before .if2 .taken) in
+    let listing = s .pre (t .some) (t .within) (t .free) in
+    (t .few, (t .fits, (listing .ends, λ i q. all-from (a .arcs .now) (a .seen .now) (take (a .by .len) (a .near .now)) (a .by .spare) (a .by .used) (getD (listOf (a .per)) i 0) listing (m i q))))
+
+returns-2 : tie.Need-returns-2
+returns-2 c = c .arcs-listed .ensures
 
 perimeter-arcs-requires : tie.Need-perimeter-arcs-requires
 perimeter-arcs-requires c κs = search needs
 
-returns-2 : tie.Need-returns-2
-returns-2 c = c .perimeter-arcs .ensures
+returns-3 : tie.Need-returns-3
+returns-3 c = c .perimeter-arcs .ensures
 
 pub perimeter-arcs-near-spec : {M : Type 1} → statement M
 perimeter-arcs-near-spec =
@@ -37,7 +52,10 @@ perimeter-arcs-near-spec =
     (tie.spec
     tells-requires
     all-marked-requires
-    arcs-listed-requires
+    size-requires
+    few-listed-requires
     returns
+    arcs-listed-requires
+    returns-2
     perimeter-arcs-requires
-    returns-2)
+    returns-3)
