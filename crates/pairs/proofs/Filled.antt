@@ -8,8 +8,9 @@ use mathlib.Core.Bool.{Bool, true}
 use mathlib.Core.List.{List}
 use lib.ListN.{length, getD, take}
 use Rattle.rules.specs.Table.{Table, cell, has}
-use Rattle.pairs.specs.Near.{isMarked, Listing, Near, FilledUp}
+use Rattle.pairs.specs.Near.{isMarked, Listing, Near, FilledUp, Chained}
 use Rattle.pairs.specs.declared.near.Nearby.{Nearby}
+use Rattle.pairs.proofs.Chains.{chained-stays}
 
 -- ---- tables filled up
 
@@ -35,15 +36,18 @@ some-link t x u = go (ℕ-discrete x 0)
     go (no nz) = omega arith
 
 pub near-stays : (t n : Table) (seen : List Bool) (near : List ℕ) (by : Nearby) → FilledUp t n → Near t seen near by → Near n seen near by
-near-stays t n seen near by f h one on e = record {
-  leaving = λ x l u m. from x u m (ℕ-discrete (cell t x 0) 0) (decLt x spare) l;
-  free = λ x a l z. was .free x a l (sym (f .beyond x x a (omega (arith, f .rows)) z (le-refl x)) ∙ z);
-  rising = record { named = λ k a l. subst (λ (i : ℕ). (1 ≤ getD list k 0) × (getD list k 0 ≤ i)) (sym (f .rows)) (was .rising .named k a l); ordered = was .rising .ordered };
-  ends = λ k j a l b z.
-      let x = getD list k 0 in
-      let is = was .rising .named k a (omega arith) in
-      f .beyond x (getD list j 0) (is .0) (is .1) z (was .rising .ordered k j a l b) ∙ was .ends k j a l b (sym (f .beyond x x (is .0) (is .1) z (le-refl x)) ∙ z);
-}
+near-stays t n seen near by f h one on e = (
+  record {
+    leaving = λ x l u m. from x u m (ℕ-discrete (cell t x 0) 0) (decLt x spare) l;
+    free = λ x a l z. was .free x a l (sym (f .beyond x x a (omega (arith, f .rows)) z (le-refl x)) ∙ z);
+    rising = record { named = λ k a l. subst (λ (i : ℕ). (1 ≤ getD list k 0) × (getD list k 0 ≤ i)) (sym (f .rows)) (was .rising .named k a l); ordered = was .rising .ordered };
+    ends = λ k j a l b z.
+        let x = getD list k 0 in
+        let is = was .rising .named k a (omega arith) in
+        f .beyond x (getD list j 0) (is .0) (is .1) z (was .rising .ordered k j a l b) ∙ was .ends k j a l b (sym (f .beyond x x (is .0) (is .1) z (le-refl x)) ∙ z);
+  },
+  (start .1 .0, chained-stays t n near (by .chained) f (start .1 .1)),
+)
   where
     list : List ℕ
     list = take (by .len) near
@@ -51,8 +55,11 @@ near-stays t n seen near by f h one on e = record {
     spare : ℕ
     spare = by .spare
 
+    start : Listing t seen list spare (by .used) × ((by .chained ≤ by .len) × Chained t near (by .chained))
+    start = h one (omega (arith, f .rows)) (sym (f .beyond spare spare one (omega (arith, f .rows)) e (le-refl spare)) ∙ e)
+
     was : Listing t seen list spare (by .used)
-    was = h one (omega (arith, f .rows)) (sym (f .beyond spare spare one (omega (arith, f .rows)) e (le-refl spare)) ∙ e)
+    was = start .0
 
     from : (x : ℕ) → (cell n x 0 ≡ 0 → ⊥) → isMarked seen (cell n x 0) ≡ true → Dec (cell t x 0 ≡ 0) → Dec (x < spare) → x ≤ length n → has list x ≡ true
     from x u m (no v) d l = was .leaving x (omega (arith, f .rows)) v (subst (λ (s : ℕ). isMarked seen s ≡ true) (f .stays x v) m)

@@ -76,6 +76,10 @@ has-some (y ∷ ys) x h un = has-some ys x (later (ne-eqb x y (λ e. un 0 (omega
     later : eqb x y ≡ false → has ys x ≡ true
     later e = rw e at h
 
+pub has-found : (l : List ℕ) (x : ℕ) (b : Bool) → has l x ≡ true → ((j : ℕ) → j < length l → getD l j 0 ≡ x → b ≡ true) → b ≡ true
+has-found l x true h f = refl
+has-found l x false h f = absurd (has-some l x h (λ j q e. let z : _≡_ {A = ℕ} 0 1 = ap (λ (b : Bool). cond b 1 0) (f j q e) in omega arith))
+
 -- and before place k where it stands at no place from there on
 pub has-early : (l : List ℕ) (k x : ℕ) → has l x ≡ true → ((j : ℕ) → k ≤ j → j < length l → getD l j 0 ≡ x → ⊥) → has (take k l) x ≡ true
 unfolding has

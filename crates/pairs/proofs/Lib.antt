@@ -4,6 +4,7 @@ pub mod Steps
 pub mod Listed
 pub mod Pass
 pub mod Led
+pub mod Chains
 pub mod Filled
 pub mod Has
 pub mod Listing

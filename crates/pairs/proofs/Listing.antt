@@ -12,7 +12,7 @@ use lib.ListN.{length, getD, set, take, length-append, List·getD-append}
 use lib.Seq.{getD-set-same, getD-set-other}
 use Rattle.rules.specs.Table.{Table, cell, has, unused, orElse}
 use Rattle.pairs.specs.Pairs.{markCount, NoMarks}
-use Rattle.pairs.specs.Near.{isMarked, Rising, Listing, Near, Passable, Onward, ListedTo}
+use Rattle.pairs.specs.Near.{isMarked, Rising, Listing, Near, Passable, Onward, ListedTo, Chained}
 use Rattle.pairs.specs.declared.near.Nearby.{Nearby}
 use Rattle.pairs.proofs.Blocks.{over-run}
 use Rattle.pairs.proofs.Filled.{some-link}
@@ -61,6 +61,9 @@ module _ (arcs : Table) (seen : List Bool) where
   named : (x : ℕ) → 1 ≤ x → cell arcs x 0 ≡ getD (getD arcs (x - 1) []) 0 0
   unfolding cell
   named x l = rw (ne-eqb x 0 (λ e. omega arith))
+
+  pub row-source : (i : ℕ) → cell arcs (i + 1) 0 ≡ getD (getD arcs i []) 0 0
+  row-source i = let w : i + 1 - 1 ≡ i = omega arith in named (i + 1) (omega arith) ∙ rw w
 
   pub listed-start : (left : ℕ) → ListedTo arcs seen [] 0 0 0 left 0
   listed-start left = record {
@@ -111,7 +114,7 @@ module _ (arcs : Table) (seen : List Bool) where
     })
       where
         here : cell arcs (i + 1) 0 ≡ 0
-        here = let w : i + 1 - 1 ≡ i = omega arith in named (i + 1) (omega arith) ∙ rw w z
+        here = row-source i ∙ z
 
         go : Dec (first ≡ 0) → (j : ℕ) → j + 1 < orElse first (i + 1) → unused (getD arcs j []) ≡ false
         go (yes e) = rw (eq-eqb first 0 e) (λ j q. h .none e nz j (omega arith))
@@ -126,8 +129,8 @@ module _ (arcs : Table) (seen : List Bool) where
   pub listed-run : (list : List ℕ) (i r spare first left used : ℕ) → Onward arcs seen left i r → ListedTo arcs seen list i spare first left used → ListedTo arcs seen list r spare first left used
   listed-run list i r spare first left used o = over-run (λ (j : ℕ). ListedTo arcs seen list j spare first left used) i r (o .0) (λ j a b h. listed-skip list j spare first left used h (o .1 .1 j a b))
 
-  pub listed-end : (near : List ℕ) (by : Nearby) (i left : ℕ) → i ≤ length arcs → length arcs ≤ i → ListedTo arcs seen (take (by .len) near) i (by .spare) (by .first) left (by .used) → Near arcs seen near by
-  listed-end near by i left most all h one on e = record { leaving = leaving; free = free; rising = rising-later list (by .used) i (length arcs) most (h .rising); ends = λ k j a b c z. h .taken-none j (omega arith) c }
+  pub listed-end : (near : List ℕ) (by : Nearby) (i left : ℕ) → i ≤ length arcs → length arcs ≤ i → ListedTo arcs seen (take (by .len) near) i (by .spare) (by .first) left (by .used) → by .chained ≤ by .len → Chained arcs near (by .chained) → Near arcs seen near by
+  listed-end near by i left most all h few chained one on e = (record { leaving = leaving; free = free; rising = rising-later list (by .used) i (length arcs) most (h .rising); ends = λ k j a b c z. h .taken-none j (omega arith) c }, (few, chained))
     where
       list : List ℕ
       list = take (by .len) near

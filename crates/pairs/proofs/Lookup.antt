@@ -1,5 +1,5 @@
 -- The least listed link of an arc from a to b is the one that a pass finds, where every arc that leaves a is listed; so for all pairs of a perimeter.
-use Prim.Native.Nat.{ℕ, _+_, _-_, _≤_, _<_}
+use Prim.Native.Nat.{ℕ, _+_, _-_, _%_, _≤_, _<_}
 use native.Mathlib.Nat.{le-refl}
 use native.Mathlib.Numerals.{add-one}
 use native.Mathlib.Omega.{arith}
@@ -9,7 +9,7 @@ use borrow.Author.Tests.{eq-eqb, ne-eqb, lt-ltb, le-ltb}
 use mathlib.Core.Path.{_≡_, refl, ap, sym, _∙_, subst}
 use mathlib.Core.Bool.{Bool, true, false, cond, _&&_, _||_}
 use mathlib.Core.List.{List, [], _∷_, _++_}
-use lib.ListN.{length, getD, set, take, replicate, length-set, length-replicate, List·getD-eq-default}
+use lib.ListN.{length, getD, set, take, replicate, length-take, length-set, length-replicate, List·getD-eq-default}
 use lib.Seq.{getD-set-same, getD-set-other, getD-take, take-take}
 use lib.Dec.{eqb, ltb}
 use Rattle.rules.specs.declared.Links.{Links}
@@ -18,10 +18,10 @@ use Rattle.rules.specs.Mesh.{joins, arcBetween, linksOf, listOf}
 use Rattle.tables.proofs.Scans.{into-found, into-none}
 use Rattle.lists.proofs.Laws.{after-on}
 use Rattle.pairs.specs.Pairs.{arcsOf, runsAt}
-use Rattle.pairs.specs.Near.{isMarked, Listing, Ends, AllFrom, leads, Least, lowerLink, LinkNoted}
+use Rattle.pairs.specs.Near.{isMarked, Listing, Ends, AllFrom, leads, Least, Sought, lowerLink, LinkNoted, sourceAt, LastLike}
 use Rattle.pairs.proofs.Filled.{some-link}
 use Rattle.pairs.proofs.Below.{or-left, or-right}
-use Rattle.pairs.proofs.Has.{has-before, has-read, has-early}
+use Rattle.pairs.proofs.Has.{has-last, has-left, has-before, has-read, has-found, has-early}
 use Rattle.pairs.proofs.Listing.{both}
 use Rattle.pairs.proofs.Steps.{item-is}
 use Rattle.pairs.proofs.Pass.{joined, from-none, from-some, from, to, places-told, zeros}
@@ -120,6 +120,47 @@ module _ (arcs : Table) (a b : ℕ) where
           within : m - 1 < length arcs
           within = on (decLt (m - 1) (length arcs))
 
+  -- ---- along a chain
+
+  -- the least of the links of the chain from place k on, up to place n
+  pub record Walked (near : List ℕ) (n k m : ℕ) : Type 0 where
+    pub list : List ℕ
+    pub least : Least arcs a b list m
+    pub met : (j : ℕ) → k ≤ j → j < n → leads arcs a b (getD near j 0) ≡ true → has list (getD near j 0) ≡ true
+
+  leads-from : (x : ℕ) → leads arcs a b x ≡ true → cell arcs x 0 ≡ a
+  leads-from x l = go (ℕ-discrete (cell arcs x 0) a)
+    where
+      go : Dec (cell arcs x 0 ≡ a) → cell arcs x 0 ≡ a
+      go (yes e) = e
+      go (no ne) = let un : leads arcs a b x ≡ false = rw (ne-eqb (cell arcs x 0) a ne) in absurd (both (sym l ∙ un))
+
+  module _ (near : List ℕ) (n : ℕ) where
+    pub walked-start : (k : ℕ) → LastLike arcs near a n k → Walked near n k 0
+    walked-start k h = record { list = []; least = least-start; met = λ j q l e. absurd (h .past j q l (ap (λ (v : ℕ). v % 128) (leads-from (getD near j 0) e))) }
+
+    pub walked-next : (k m p r : ℕ) → 1 ≤ k → sourceAt arcs near (k - 1) % 128 ≡ a % 128 → LastLike arcs near (sourceAt arcs near (k - 1)) (k - 1) p → (w : Walked near n k m) → Least arcs a b (w .list ++ (getD near (k - 1) 0 ∷ [])) r → Walked near n p r
+    walked-next k m p r some same h w least = record { list = w .list ++ (x ∷ []); least = least; met = λ j q l e. go j q l e (decLt j (k - 1)) (ℕ-discrete j (k - 1)) }
+      where
+        x : ℕ
+        x = getD near (k - 1) 0
+
+        go : (j : ℕ) → p ≤ j → j < n → leads arcs a b (getD near j 0) ≡ true → Dec (j < k - 1) → Dec (j ≡ k - 1) → has (w .list ++ (x ∷ [])) (getD near j 0) ≡ true
+        go j q l e (yes before) d = absurd (h .past j q before (ap (λ (v : ℕ). v % 128) (leads-from (getD near j 0) e) ∙ sym same))
+        go j q l e (no nb) (yes d) = rw d (has-last (w .list) x)
+        go j q l e (no nb) (no nd) = has-left (w .list) x (getD near j 0) (w .met j (omega arith) l e)
+
+    pub walked-end : (m : ℕ) → Walked near n 0 m → Least arcs a b (take n near) m
+    walked-end m w = record { is = w .least .is; some = λ x q l. w .least .some x (in-list x q l) l; low = λ x q l. w .least .low x (in-list x q l) l }
+      where
+        in-list : (x : ℕ) → has (take n near) x ≡ true → leads arcs a b x ≡ true → has (w .list) x ≡ true
+        in-list x q l = has-found (take n near) x (has (w .list) x) q (λ j i e. at j (omega (arith, length-take n near)) e)
+          where
+            at : (j : ℕ) → j < n → getD (take n near) j 0 ≡ x → has (w .list) x ≡ true
+            at j i e =
+                let is : getD near j 0 ≡ x = sym (getD-take n near j 0 i) ∙ e in
+                subst (λ (y : ℕ). has (w .list) y ≡ true) is (w .met j (omega arith) i (subst (λ (y : ℕ). leads arcs a b y ≡ true) (sym is) l))
+
 -- ---- one link noted at its pairs
 
 module _ (f t : List ℕ) (s d x : ℕ) (at₀ : List ℕ) where
@@ -179,27 +220,26 @@ pub ends-are : (per : Links) (n : ℕ) (t : List ℕ) → n ≡ length (listOf p
 ends-are per n t e h i q = h i (omega arith) ∙ ap (λ (k : ℕ). getD (per .at) (after k i) 0) e ∙ item-is per (after (length (listOf per)) i) (after-on (length (listOf per)) i q)
 
 module _ (arcs : Table) (f t : List ℕ) (size : ℕ) where
-  -- at each of the pairs stands the least link in the list, and none where the pair starts at none
-  pub record Sought (list at : List ℕ) : Type 0 where
-    pub places : length at ≡ 64
-    pub none : (i : ℕ) → i < size → getD f i 0 ≡ 0 → getD at i 0 ≡ 0
-    pub least : (i : ℕ) → i < size → (getD f i 0 ≡ 0 → ⊥) → Least arcs (getD f i 0) (getD t i 0) list (getD at i 0)
-    pub clear : (i : ℕ) → size ≤ i → getD at i 0 ≡ 0
+  pub sought-start : (list : List ℕ) → Sought arcs f t 0 list (replicate 64 0)
+  sought-start list = record { places = length-replicate {A = ℕ} 64 0; none = below-none _; least = below-none _; clear = λ i q. zeros i }
 
-  pub sought-start : Sought [] (replicate 64 0)
-  sought-start = record {
-    places = length-replicate {A = ℕ} 64 0;
-    none = λ i q e. zeros i;
-    least = λ i q ne. rw (zeros i) (least-start arcs (getD f i 0) (getD t i 0));
-    clear = λ i q. zeros i;
+  pub sought-more : (list at : List ℕ) (i y : ℕ) → i < 64 → Sought arcs f t i list at → (getD f i 0 ≡ 0 → y ≡ 0) → ((getD f i 0 ≡ 0 → ⊥) → Least arcs (getD f i 0) (getD t i 0) list y) → Sought arcs f t (i + 1) list (set at i y)
+  sought-more list at i y on h none least = record {
+    places = length-set at i y ∙ h .places;
+    none = below-more _ i (λ j q z. getD-set-other at i j y 0 (λ e. omega arith) ∙ h .none j q z) (λ z. here ∙ none z);
+    least = below-more _ i (λ j q ne. rw (getD-set-other at i j y 0 (λ e. omega arith)) (h .least j q ne)) (λ ne. rw here (least ne));
+    clear = λ j q. getD-set-other at i j y 0 (λ e. omega arith) ∙ h .clear j (omega arith);
   }
+    where
+      here : getD (set at i y) i 0 ≡ y
+      here = getD-set-same at i y 0 (omega (arith, h .places))
 
-  module _ (list : List ℕ) (x : ℕ) (at : List ℕ) (h : Sought list at) where
+  module _ (list : List ℕ) (x : ℕ) (at : List ℕ) (h : Sought arcs f t size list at) where
     other : (i : ℕ) → i < size → (getD f i 0 ≡ 0 → ⊥) → leads arcs (getD f i 0) (getD t i 0) x ≡ false → Least arcs (getD f i 0) (getD t i 0) (list ++ (x ∷ [])) (getD at i 0)
     other i q ne = least-other arcs (getD f i 0) (getD t i 0) list (getD at i 0) x (h .least i q ne)
 
     -- a link whose arc leaves none of the vertices
-    pub sought-skip : ((i : ℕ) → i < size → (getD f i 0 ≡ 0 → ⊥) → cell arcs x 0 ≡ getD f i 0 → ⊥) → Sought (list ++ (x ∷ [])) at
+    pub sought-skip : ((i : ℕ) → i < size → (getD f i 0 ≡ 0 → ⊥) → cell arcs x 0 ≡ getD f i 0 → ⊥) → Sought arcs f t size (list ++ (x ∷ [])) at
     sought-skip un = record {
       places = h .places;
       none = h .none;
@@ -207,7 +247,7 @@ module _ (arcs : Table) (f t : List ℕ) (size : ℕ) where
       clear = h .clear;
     }
 
-    pub sought-note : (s d : ℕ) (at₁ : List ℕ) → size ≤ 64 → s ≡ cell arcs x 0 → d ≡ cell arcs x 1 → (s ≡ 0 → ⊥) → LinkNoted f t s d x at size at₁ → Sought (list ++ (x ∷ [])) at₁
+    pub sought-note : (s d : ℕ) (at₁ : List ℕ) → size ≤ 64 → s ≡ cell arcs x 0 → d ≡ cell arcs x 1 → (s ≡ 0 → ⊥) → LinkNoted f t s d x at size at₁ → Sought arcs f t size (list ++ (x ∷ [])) at₁
     unfolding runsAt
     sought-note s d at₁ few es ed ns n = record {
       places = n .size ∙ h .places;
@@ -224,7 +264,7 @@ module _ (arcs : Table) (f t : List ℕ) (size : ℕ) where
         go i q ne (yes e) (no ng) = rw (eq-eqb s (getD f i 0) e, ne-eqb d (getD t i 0) ng) (other i q ne (rw (eq-eqb (cell arcs x 0) (getD f i 0) (sym es ∙ e), ne-eqb (cell arcs x 1) (getD t i 0) (λ z. ng (ed ∙ z)))))
         go i q ne (no nf) g = rw (ne-eqb s (getD f i 0) nf) (other i q ne (rw (ne-eqb (cell arcs x 0) (getD f i 0) (λ z. nf (es ∙ z)))))
 
-  pub sought-read : (near : List ℕ) (n : ℕ) (at : List ℕ) → Sought (take n near ++ (getD near n 0 ∷ [])) at → Sought (take (n + 1) near) at
+  pub sought-read : (near : List ℕ) (n : ℕ) (at : List ℕ) → Sought arcs f t size (take n near ++ (getD near n 0 ∷ [])) at → Sought arcs f t size (take (n + 1) near) at
   sought-read near n at h = record {
     places = h .places;
     none = h .none;
@@ -233,7 +273,7 @@ module _ (arcs : Table) (f t : List ℕ) (size : ℕ) where
   }
 
   module _ (per : List ℕ) (e : size ≡ length per) (ef : (i : ℕ) → i < length per → getD f i 0 ≡ from per i) (et : (i : ℕ) → i < length per → getD t i 0 ≡ to per i) where
-    pub sought-end : (list at : List ℕ) → length per ≤ 64 → length arcs ≤ rowLimit → ((i : ℕ) → i < length per → AllFrom arcs list (from per i)) → Sought list at → record { at = at; len = size } ≡ linksOf (arcsOf arcs per)
+    pub sought-end : (list at : List ℕ) → length per ≤ 64 → length arcs ≤ rowLimit → ((i : ℕ) → i < length per → AllFrom arcs list (from per i)) → Sought arcs f t size list at → record { at = at; len = size } ≡ linksOf (arcsOf arcs per)
     sought-end list at few fits all h = places-told arcs per at size e few (h .places) (λ i q. rw (← ef i q, ← et i q) (is i q (ℕ-discrete (getD f i 0) 0))) (λ i q. h .clear i (omega arith))
       where
         is : (i : ℕ) → i < length per → Dec (getD f i 0 ≡ 0) → getD at i 0 ≡ arcBetween arcs (getD f i 0) (getD t i 0)

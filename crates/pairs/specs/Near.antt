@@ -1,10 +1,10 @@
 -- Arcs near an edit, listed in one pass for all perimeters of that edit: those that leave a vertex with a mark, and the lowest unused rows, which
 -- the edit's new arcs take. The list stays true as arcs are made, as long as its last unused row, the spare one, is unused.
-use Prim.Native.Nat.{ℕ, _+_, _%_, _≤_, _<_}
+use Prim.Native.Nat.{ℕ, _+_, _-_, _%_, _≤_, _<_}
 use mathlib.Core.Path.{_≡_}
 use mathlib.Core.Bool.{Bool, true, false, _&&_, cond}
 use mathlib.Core.List.{List, []}
-use lib.ListN.{length, getD, take}
+use lib.ListN.{length, getD, set, take}
 use lib.Dec.{eqb, ltb}
 use Rattle.rules.specs.Table.{Table, cell, has, unused, rowLimit}
 use Rattle.pairs.specs.Pairs.{markCount, runsAt}
@@ -31,9 +31,31 @@ pub record Listing (arcs : Table) (seen : List Bool) (list : List ℕ) (spare us
   pub rising : Rising list used (length arcs)
   pub ends : Ends arcs list used
 
+-- ---- links chained by the remainders that the sources of their rows leave
+
+-- the source of the row that place k names
+abbrev pub sourceAt : Table → List ℕ → ℕ → ℕ
+sourceAt arcs near k = cell arcs (getD near k 0) 0
+
+-- place p - 1 is the last of the first n whose source leaves the same remainder as v; p is 0 where there is none
+pub record LastLike (arcs : Table) (near : List ℕ) (v n p : ℕ) : Type 0 where
+  pub within : p ≤ n
+  pub like : 1 ≤ p → sourceAt arcs near (p - 1) % 128 ≡ v % 128
+  pub past : (j : ℕ) → p ≤ j → j < n → sourceAt arcs near j % 128 ≡ v % 128 → ⊥
+
+-- the first n places are chained: each has the last place before it that is like it, and each remainder the last of all
+pub record Chained (arcs : Table) (near : List ℕ) (n : ℕ) : Type 0 where
+  pub used : (j : ℕ) → j < n → sourceAt arcs near j ≡ 0 → ⊥
+  pub next : (k : ℕ) → k < n → LastLike arcs near (sourceAt arcs near k) k (getD near (1024 + k) 0)
+  pub last : (v : ℕ) → LastLike arcs near v n (getD near (2048 + v % 128) 0)
+
+-- place n, of a row that leaves s, put at the end of its chain
+abbrev pub chainedAt : List ℕ → ℕ → ℕ → List ℕ
+chainedAt near n s = set (set near (1024 + n) (getD near (2048 + s % 128) 0)) (2048 + s % 128) (n + 1)
+
 -- that is so if there is a spare row and it is still unused
 abbrev pub Near : Table → List Bool → List ℕ → Nearby → Type 0
-Near arcs seen near by = 1 ≤ by .spare → by .spare ≤ length arcs → cell arcs (by .spare) 0 ≡ 0 → Listing arcs seen (take (by .len) near) (by .spare) (by .used)
+Near arcs seen near by = 1 ≤ by .spare → by .spare ≤ length arcs → cell arcs (by .spare) 0 ≡ 0 → Listing arcs seen (take (by .len) near) (by .spare) (by .used) × ((by .chained ≤ by .len) × Chained arcs near (by .chained))
 
 -- n is t with unused rows taken from the lowest on: a used row keeps its first cell, and from a row on that is still unused so does every row
 pub record FilledUp (t n : Table) : Type 0 where
@@ -85,6 +107,13 @@ pub record Least (arcs : Table) (a b : ℕ) (list : List ℕ) (m : ℕ) : Type 0
   pub is : (m ≡ 0 → ⊥) → leads arcs a b m ≡ true
   pub some : (x : ℕ) → has list x ≡ true → leads arcs a b x ≡ true → m ≡ 0 → ⊥
   pub low : (x : ℕ) → has list x ≡ true → leads arcs a b x ≡ true → m ≤ x
+
+-- at each of so many pairs stands the least link in the list, and none where the pair starts at none; pair i runs from f i to t i
+pub record Sought (arcs : Table) (f t : List ℕ) (size : ℕ) (list at : List ℕ) : Type 0 where
+  pub places : length at ≡ 64
+  pub none : (i : ℕ) → i < size → getD f i 0 ≡ 0 → getD at i 0 ≡ 0
+  pub least : (i : ℕ) → i < size → (getD f i 0 ≡ 0 → ⊥) → Least arcs (getD f i 0) (getD t i 0) list (getD at i 0)
+  pub clear : (i : ℕ) → size ≤ i → getD at i 0 ≡ 0
 
 -- the lesser of two links, where 0 is none
 unfoldable pub lowerLink : ℕ → ℕ → ℕ

@@ -23,8 +23,8 @@ arc-listed-requires c κs =
     let a = s .args in
     let t = c .before .before .before .before .tells .ensures (c .before .before .before .if1 .taken) in
     let is : isMarked (a .seen .now) (a .a) ≡ true = rw (← c .before .before .wide .ensures) (c .if2 .taken) in
-    let listing = s .pre (t .some) (t .within) (t .free) in
-    (t .few, (t .fits, (listing .ends, all-from (a .arcs .now) (a .seen .now) (take (a .by .len) (a .near .now)) (a .by .spare) (a .by .used) (a .a) listing is)))
+    let known = s .pre (t .some) (t .within) (t .free) in
+    (t .few, (t .fits, (known .1, (known .0 .ends, all-from (a .arcs .now) (a .seen .now) (take (a .by .len) (a .near .now)) (a .by .spare) (a .by .used) (a .a) (known .0) is))))
 
 returns : tie.Need-returns
 returns c = c .arc-listed .ensures

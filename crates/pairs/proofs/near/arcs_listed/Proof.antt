@@ -8,16 +8,17 @@ use Rattle.rules.specs.Mesh.{listOf}
 use Rattle.pairs.specs.Pairs.{marksOf}
 use Rattle.pairs.proofs.Pass.{unmarked}
 use Rattle.pairs.proofs.Steps.{item-is}
-use Rattle.pairs.proofs.Lookup.{all-early, Sought, sought-start, sought-skip, sought-note, sought-read, sought-end}
+use Rattle.pairs.specs.Near.{Sought}
+use Rattle.pairs.proofs.Lookup.{all-early, sought-skip, sought-note, sought-read, sought-end}
 use borrow.Author.Needs.{needs}
 use Rattle.pairs.proofs.near.arcs_listed.Statement.{statement}
 use Rattle.pairs.proofs.near.arcs_listed.Tie as tie
 
 abbrev Inv-loop : tie.InvT-loop
-Inv-loop arcs near n used size from to seen at₀ k₀ at k = (k ≤ n) × Sought arcs from to size (take k near) at
+Inv-loop arcs near n used chained size from to seen at₀ k₀ at k = (k ≤ n) × Sought arcs from to size (take k near) at
 
 abbrev μ-loop : tie.MeasureT-loop
-μ-loop arcs near n used size from to seen at₀ k₀ at k = n - k
+μ-loop arcs near n used chained size from to seen at₀ k₀ at k = n - k
 
 size-requires : tie.Need-size-requires Inv-loop μ-loop
 size-requires c κs = search needs
@@ -31,8 +32,14 @@ ends-requires c κs = search needs
 mark-requires : tie.Need-mark-requires Inv-loop μ-loop
 mark-requires c κs = search needs
 
+arcs-chained-requires : tie.Need-arcs-chained-requires Inv-loop μ-loop
+arcs-chained-requires c κs =
+    let k = c .before .before .before .before .before .before in
+    let p = k .before .before .pre in
+    (omega (arith, k .known-few .ensures, k .before .size .ensures), (omega (arith, p .0, p .1 .1 .0 .0), p .1 .1 .0 .1))
+
 loop-holds : tie.Need-loop-holds Inv-loop μ-loop
-loop-holds c = (search needs, sought-start _ _ _ _)
+loop-holds c = (c .before .before .before .before .before .before .before .before .before .pre .1 .1 .0 .0, c .arcs-chained .ensures)
 
 mul-x : tie.Need-mul-x Inv-loop μ-loop
 mul-x c = search needs
@@ -46,14 +53,14 @@ cell6-requires c κs = search needs
 returns : tie.Need-returns Inv-loop μ-loop
 returns c =
     let l = c .before .before .before .before .before in
-    let e = l .before .before .before in
+    let e = l .before .before .before .before .before .before in
     let k = e .before .before in
     let s = k .before .before in
     let a = s .args in
     let arcs = a .arcs .now in
     let size = k .before .size in
     let unused = sym (c .before .before .cell6 .ensures) ∙ c .before .if1 .taken in
-    sought-end arcs (a .per .at) (e .ends .result) (size .result) (listOf (a .per)) (size .ensures) (item-is (a .per)) (e .ends .ensures) (take (l .loop .k) (a .near .now)) (l .loop .at) (k .known-few .ensures) (s .pre .1 .0) (λ i q. all-early arcs (a .near .now) (a .n) (a .used) (l .loop .k) (getD (listOf (a .per)) i 0) (s .pre .1 .1 .0) (c .if2 .taken) (c .before .before .before .before .loop-test .taken) unused (s .pre .1 .1 .1 i q)) (l .loop .inv .1)
+    sought-end arcs (a .per .at) (e .ends .result) (size .result) (listOf (a .per)) (size .ensures) (item-is (a .per)) (e .ends .ensures) (take (l .loop .k) (a .near .now)) (l .loop .at) (k .known-few .ensures) (s .pre .1 .0) (λ i q. all-early arcs (a .near .now) (a .n) (a .used) (l .loop .k) (getD (listOf (a .per)) i 0) (s .pre .1 .1 .1 .0) (c .if2 .taken) (c .before .before .before .before .loop-test .taken) unused (s .pre .1 .1 .1 .1 i q)) (l .loop .inv .1)
 
 wide-requires : tie.Need-wide-requires Inv-loop μ-loop
 wide-requires c κs = search needs
@@ -66,7 +73,7 @@ cell6-requires-2 c κs = search needs
 
 note-listed-requires : tie.Need-note-listed-requires Inv-loop μ-loop
 note-listed-requires c κs =
-    let k = c .before .before .before .before .before .before .before .before .before .before .before .before .before .before .before in
+    let k = c .before .before .before .before .before .before .before .before .before .before .before .before .before .before .before .before .before .before in
     omega (arith, k .known-few .ensures, k .before .size .ensures)
 
 add-k : tie.Need-add-k Inv-loop μ-loop
@@ -79,7 +86,7 @@ loop-again : tie.Need-loop-again Inv-loop μ-loop
 unfolding marksOf
 loop-again c =
     let l = c .before .before .before .before in
-    let m = l .before in
+    let m = l .before .before .before .before in
     let k = m .before .before .before .before in
     let a = k .before .before .args in
     let arcs = a .arcs .now in
@@ -102,13 +109,13 @@ loop-again c =
 returns-2 : tie.Need-returns-2 Inv-loop μ-loop
 returns-2 c =
     let l = c .before in
-    let e = l .before .before .before in
+    let e = l .before .before .before .before .before .before in
     let k = e .before .before in
     let s = k .before .before in
     let a = s .args in
     let size = k .before .size in
     let all : l .loop .k ≡ a .n = omega arith in
-    sought-end (a .arcs .now) (a .per .at) (e .ends .result) (size .result) (listOf (a .per)) (size .ensures) (item-is (a .per)) (e .ends .ensures) (take (a .n) (a .near .now)) (l .loop .at) (k .known-few .ensures) (s .pre .1 .0) (s .pre .1 .1 .1) (rw all at (l .loop .inv .1))
+    sought-end (a .arcs .now) (a .per .at) (e .ends .result) (size .result) (listOf (a .per)) (size .ensures) (item-is (a .per)) (e .ends .ensures) (take (a .n) (a .near .now)) (l .loop .at) (k .known-few .ensures) (s .pre .1 .0) (s .pre .1 .1 .1 .1) (rw all at (l .loop .inv .1))
 
 pub arcs-listed-spec : {M : Type 1} → statement M
 arcs-listed-spec =
@@ -120,6 +127,7 @@ arcs-listed-spec =
     known-few-requires
     ends-requires
     mark-requires
+    arcs-chained-requires
     loop-holds
     mul-x
     element-copy-out-x

@@ -6,16 +6,17 @@ use mathlib.Core.Logic.{⊎-elim}
 use lib.ListN.{getD, take}
 use Rattle.rules.specs.Mesh.{listOf}
 use Rattle.pairs.proofs.Steps.{item-is}
-use Rattle.pairs.proofs.Lookup.{all-early, Sought, sought-start, sought-skip, sought-note, sought-read, sought-end}
+use Rattle.pairs.specs.Near.{Sought}
+use Rattle.pairs.proofs.Lookup.{all-early, sought-skip, sought-note, sought-read, sought-end}
 use borrow.Author.Needs.{needs}
 use Rattle.pairs.proofs.near.few_listed.Statement.{statement}
 use Rattle.pairs.proofs.near.few_listed.Tie as tie
 
 abbrev Inv-loop : tie.InvT-loop
-Inv-loop arcs near n used size from to at₀ k₀ at k = (k ≤ n) × Sought arcs from to size (take k near) at
+Inv-loop arcs near n used chained size from to at₀ k₀ at k = (k ≤ n) × Sought arcs from to size (take k near) at
 
 abbrev μ-loop : tie.MeasureT-loop
-μ-loop arcs near n used size from to at₀ k₀ at k = n - k
+μ-loop arcs near n used chained size from to at₀ k₀ at k = n - k
 
 size-requires : tie.Need-size-requires Inv-loop μ-loop
 size-requires c κs = search needs
@@ -23,8 +24,14 @@ size-requires c κs = search needs
 ends-requires : tie.Need-ends-requires Inv-loop μ-loop
 ends-requires c κs = search needs
 
+arcs-chained-requires : tie.Need-arcs-chained-requires Inv-loop μ-loop
+arcs-chained-requires c κs =
+    let z = c .before .before .before .before in
+    let p = z .before .pre in
+    (omega (arith, z .size .ensures, p .1), (omega (arith, p .0 .0, p .0 .1 .1 .0 .0), p .0 .1 .1 .0 .1))
+
 loop-holds : tie.Need-loop-holds Inv-loop μ-loop
-loop-holds c = (search needs, sought-start _ _ _ _)
+loop-holds c = (c .before .before .before .before .before .before .pre .0 .1 .1 .0 .0, c .arcs-chained .ensures)
 
 mul-x : tie.Need-mul-x Inv-loop μ-loop
 mul-x c = search needs
@@ -38,13 +45,13 @@ cell6-requires c κs = search needs
 returns : tie.Need-returns Inv-loop μ-loop
 returns c =
     let l = c .before .before .before .before .before in
-    let e = l .before in
+    let e = l .before .before .before .before in
     let z = e .before .before in
     let s = z .before in
     let a = s .args in
     let arcs = a .arcs .now in
     let unused = sym (c .before .before .cell6 .ensures) ∙ c .before .if1 .taken in
-    sought-end arcs (a .per .at) (e .ends .result) (z .size .result) (listOf (a .per)) (z .size .ensures) (item-is (a .per)) (e .ends .ensures) (take (l .loop .k) (a .near .now)) (l .loop .at) (omega (arith, s .pre .1)) (s .pre .0 .1 .0) (λ i q. all-early arcs (a .near .now) (a .n) (a .used) (l .loop .k) (getD (listOf (a .per)) i 0) (s .pre .0 .1 .1 .0) (c .if2 .taken) (c .before .before .before .before .loop-test .taken) unused (s .pre .0 .1 .1 .1 i q)) (l .loop .inv .1)
+    sought-end arcs (a .per .at) (e .ends .result) (z .size .result) (listOf (a .per)) (z .size .ensures) (item-is (a .per)) (e .ends .ensures) (take (l .loop .k) (a .near .now)) (l .loop .at) (omega (arith, s .pre .1)) (s .pre .0 .1 .0) (λ i q. all-early arcs (a .near .now) (a .n) (a .used) (l .loop .k) (getD (listOf (a .per)) i 0) (s .pre .0 .1 .1 .1 .0) (c .if2 .taken) (c .before .before .before .before .loop-test .taken) unused (s .pre .0 .1 .1 .1 .1 i q)) (l .loop .inv .1)
 
 of-four-requires : tie.Need-of-four-requires Inv-loop μ-loop
 of-four-requires c κs = search needs
@@ -54,7 +61,7 @@ cell6-requires-2 c κs = search needs
 
 note-listed-requires : tie.Need-note-listed-requires Inv-loop μ-loop
 note-listed-requires c κs =
-    let z = c .before .before .before .before .before .before .before .before .before .before .before .before .before .before in
+    let z = c .before .before .before .before .before .before .before .before .before .before .before .before .before .before .before .before .before in
     omega (arith, z .size .ensures, z .before .pre .1)
 
 add-k : tie.Need-add-k Inv-loop μ-loop
@@ -66,7 +73,7 @@ loop-less c = search needs
 loop-again : tie.Need-loop-again Inv-loop μ-loop
 loop-again c =
     let l = c .before .before .before .before in
-    let e = l .before in
+    let e = l .before .before .before .before in
     let z = e .before .before in
     let a = z .before .args in
     let arcs = a .arcs .now in
@@ -89,12 +96,12 @@ loop-again c =
 returns-2 : tie.Need-returns-2 Inv-loop μ-loop
 returns-2 c =
     let l = c .before in
-    let e = l .before in
+    let e = l .before .before .before .before in
     let z = e .before .before in
     let s = z .before in
     let a = s .args in
     let all : l .loop .k ≡ a .n = omega arith in
-    sought-end (a .arcs .now) (a .per .at) (e .ends .result) (z .size .result) (listOf (a .per)) (z .size .ensures) (item-is (a .per)) (e .ends .ensures) (take (a .n) (a .near .now)) (l .loop .at) (omega (arith, s .pre .1)) (s .pre .0 .1 .0) (s .pre .0 .1 .1 .1) (rw all at (l .loop .inv .1))
+    sought-end (a .arcs .now) (a .per .at) (e .ends .result) (z .size .result) (listOf (a .per)) (z .size .ensures) (item-is (a .per)) (e .ends .ensures) (take (a .n) (a .near .now)) (l .loop .at) (omega (arith, s .pre .1)) (s .pre .0 .1 .0) (s .pre .0 .1 .1 .1 .1) (rw all at (l .loop .inv .1))
 
 pub few-listed-spec : {M : Type 1} → statement M
 few-listed-spec =
@@ -104,6 +111,7 @@ few-listed-spec =
     μ-loop
     size-requires
     ends-requires
+    arcs-chained-requires
     loop-holds
     mul-x
     element-copy-out-x

@@ -22,8 +22,8 @@ few-listed-requires c κs =
     let a = s .args in
     let t = c .before .before .before .before .before .tells .ensures (c .before .before .before .before .if1 .taken) in
     let m = c .before .before .before .all-marked .ensures (c .before .before .if2 .taken) in
-    let listing = s .pre (t .some) (t .within) (t .free) in
-    ((t .few, (t .fits, (listing .ends, λ i q. all-from (a .arcs .now) (a .seen .now) (take (a .by .len) (a .near .now)) (a .by .spare) (a .by .used) (getD (listOf (a .per)) i 0) listing (m i q)))), omega (arith, c .before .size .ensures))
+    let known = s .pre (t .some) (t .within) (t .free) in
+    ((t .few, (t .fits, (known .1, (known .0 .ends, λ i q. all-from (a .arcs .now) (a .seen .now) (take (a .by .len) (a .near .now)) (a .by .spare) (a .by .used) (getD (listOf (a .per)) i 0) (known .0) (m i q))))), omega (arith, c .before .size .ensures))
 
 returns : tie.Need-returns
 returns c = c .few-listed .ensures
@@ -34,8 +34,8 @@ arcs-listed-requires c κs =
     let a = s .args in
     let t = c .before .before .before .before .before .tells .ensures (c .before .before .before .before .if1 .taken) in
     let m = c .before .before .before .all-marked .ensures (c .before .before .if2 .taken) in
-    let listing = s .pre (t .some) (t .within) (t .free) in
-    (t .few, (t .fits, (listing .ends, λ i q. all-from (a .arcs .now) (a .seen .now) (take (a .by .len) (a .near .now)) (a .by .spare) (a .by .used) (getD (listOf (a .per)) i 0) listing (m i q))))
+    let known = s .pre (t .some) (t .within) (t .free) in
+    (t .few, (t .fits, (known .1, (known .0 .ends, λ i q. all-from (a .arcs .now) (a .seen .now) (take (a .by .len) (a .near .now)) (a .by .spare) (a .by .used) (getD (listOf (a .per)) i 0) (known .0) (m i q)))))
 
 returns-2 : tie.Need-returns-2
 returns-2 c = c .arcs-listed .ensures
