@@ -7,7 +7,7 @@ use native.Mathlib.Numerals.{add-one}
 use native.Mathlib.Decide.{decLe}
 use native.Mathlib.Omega.{arith}
 use lib.ListN.{length, set, getD, take, drop, replicate, drop-of-length-le, length-append, length-take, length-drop}
-use lib.Seq.{take-all, take-at}
+use lib.Seq.{take-all, take-at, set-set, getD-set-same}
 use Rattle.tables.specs.Sets.{over}
 
 module _ {A : Type 0} where
@@ -89,3 +89,21 @@ module _ {A : Type 0} where
       let first : x ≡ v = h 0 (omega arith) in
       let rest : d ≡ fill v n d = fill-same n v z d (le-of-suc-le-suc l) (λ k q. h (suc k) (omega arith)) in
       λ i. first i ∷ rest i
+
+-- ---- three cells of a row made zero one after the other
+
+module _ (t : List (List ℕ)) (i : ℕ) (l : i < length t) where
+  cell-more : (r : List ℕ) (c : ℕ) → set (set t i r) i (set (getD (set t i r) i []) c 0) ≡ set t i (set r c 0)
+  cell-more r c = set-set t i r _ ∙ ap (λ (x : List ℕ). set t i (set x c 0)) (getD-set-same t i r [] l)
+
+  all-three : (r : List ℕ) → length r ≡ 3 → set (set (set r 0 0) 1 0) 2 0 ≡ 0 ∷ 0 ∷ 0 ∷ []
+  all-three (a ∷ b ∷ c ∷ []) e = refl
+  all-three [] e = absurd (omega arith)
+  all-three (a ∷ []) e = absurd (omega arith)
+  all-three (a ∷ b ∷ []) e = absurd (omega arith)
+  all-three (a ∷ b ∷ c ∷ d ∷ r) e = absurd (omega arith)
+
+  pub three-cells : length (getD t i []) ≡ 3 → (let r = set (getD t i []) 0 0 in let u = set t i r in let w = set u i (set (getD u i []) 1 0) in set w i (set (getD w i []) 2 0) ≡ set t i (0 ∷ 0 ∷ 0 ∷ []))
+  three-cells e =
+      let r : List ℕ = set (getD t i []) 0 0 in
+      ap (λ (w : List (List ℕ)). set w i (set (getD w i []) 2 0)) (cell-more r 1) ∙ cell-more (set r 1 0) 2 ∙ ap (set t i) (all-three (getD t i []) e)

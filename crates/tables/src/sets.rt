@@ -2,6 +2,7 @@
 // It carries document 01's "work in lent room, copied over only when accepted", "Working room ends all zero", the limits of "Tables are
 // lent", and "it is too small if one of them has fewer rows than the mesh table of its kind".
 
+use crate::rows;
 use crate::zeros;
 use rules::ArcRow;
 use rules::EdgeRow;
@@ -9,9 +10,9 @@ use rules::FaceRow;
 use rules::PositionRow;
 use rules::VertexRow;
 ghost use mathlib.Core.Path.{_≡_};
-ghost use Prim.Native.Nat.{ℕ, min};
+ghost use Prim.Native.Nat.{ℕ, min, _<_};
 ghost use mathlib.Core.List.{List, [], _∷_};
-ghost use lib.ListN.{length, replicate};
+ghost use lib.ListN.{length, replicate, set};
 ghost use Rattle.rules.specs.Mesh.{mesh, room};
 ghost use Rattle.rules.specs.Point.{zeroFloat};
 ghost use Rattle.rules.specs.Sound.{withinLimits};
@@ -92,12 +93,23 @@ pub fn zero2(to: &mut [VertexRow])
     }
 }
 
+// A row becomes zero. Cell by cell, so that a loop over rows is compiled to one store of all of them.
+fn zero_cells3(to: &mut [EdgeRow], i: usize)
+    requires { ⌜ i < length (now to) ⌝ }
+    ensures { λ _. ⌜ now (to .exit) ≡ set (now (to .entry)) i (0 ∷ 0 ∷ 0 ∷ []) ⌝ }
+{
+    rows::known3(to[i]);
+    to[i][0] = 0;
+    to[i][1] = 0;
+    to[i][2] = 0;
+}
+
 pub fn zero3(to: &mut [EdgeRow])
     ensures { λ _. ⌜ now (to .exit) ≡ replicate (length (now (to .entry))) (0 ∷ 0 ∷ 0 ∷ []) ⌝ }
 {
     let mut i = zeros::skip3(to);
     while i < to.len() {
-        to[i] = [0; 3];
+        zero_cells3(to, i);
         i += 1;
     }
 }

@@ -23,11 +23,8 @@ loop-holds c =
     let z = c .skip3 .ensures in
     (refl, (z .0, fill-same (c .skip3 .result) (0 ∷ 0 ∷ 0 ∷ []) [] (a .to .now) (z .0) (λ k q. z .1 k (search needs) q)))
 
-mul-t5 : tie.Need-mul-t5 Inv-loop μ-loop
-mul-t5 c = search needs
-
-slice-set-from-to : tie.Need-slice-set-from-to Inv-loop μ-loop
-slice-set-from-to c = search needs
+zero-cells3-requires : tie.Need-zero-cells3-requires Inv-loop μ-loop
+zero-cells3-requires c κs = search needs
 
 add-i : tie.Need-add-i Inv-loop μ-loop
 add-i c = search needs
@@ -37,9 +34,10 @@ loop-less c = search needs
 
 loop-again : tie.Need-loop-again Inv-loop μ-loop
 loop-again c =
-    let l = c .before in
-    let a = l .before .before .before .args in
-    (simp length-set (search needs), (search needs, rw (l .loop .inv .1 .1) (fill-more (l .loop .i) (0 ∷ 0 ∷ 0 ∷ []) (a .to .now) (search needs))))
+    let l = c .before .before .before .before .loop in
+    let a = c .before .before .before .before .before .before .before .args in
+    let z = c .before .zero-cells3 in
+    (z .kept .0 ∙ l .inv .0, (search needs, z .ensures ∙ rw (l .inv .1 .1) (fill-more (l .i) (0 ∷ 0 ∷ 0 ∷ []) (a .to .now) (search needs))))
 
 same-length : tie.Need-same-length Inv-loop μ-loop
 same-length c = search needs
@@ -58,8 +56,7 @@ zero3-spec =
     μ-loop
     skip3-requires
     loop-holds
-    mul-t5
-    slice-set-from-to
+    zero-cells3-requires
     add-i
     loop-less
     loop-again
