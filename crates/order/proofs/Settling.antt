@@ -1,4 +1,4 @@
--- What settling comes to, over plain values: a set copied over another of its size, and a step over the mesh.
+-- What settling comes to, over plain values: tables copied over others of their sizes, and a step over the mesh.
 use mathlib.Core.Path.{_≡_, refl, ap, sym, _∙_}
 use mathlib.Core.Bool.{Bool, true, false, not, _&&_, cond, false≢true}
 use lib.Dec.{leb}
@@ -19,7 +19,7 @@ use Rattle.rules.specs.Point.{zeroFloat}
 use Rattle.rules.specs.declared.Answer.the-variants.{Done, Refused}
 use Rattle.rules.specs.declared.Refusal.the-variants.{Tables, Argument, NoRoom, WouldBreak}
 use Rattle.rules.specs.declared.Call.{Call}
-use Rattle.tables.specs.Sets.{over, setOver}
+use Rattle.tables.specs.Sets.{over}
 use Rattle.tables.proofs.Lists.{over-same}
 use Rattle.rules.specs.declared.Edit.the-variants.{FaceInsert}
 use Rattle.checks.proofs.Pairs.{given-few}
@@ -31,19 +31,7 @@ use Rattle.order.specs.Transaction.{Left, left, SameSize, Fits, beforeWo
 abbrev pub meshOf : Room → List ℕ → Mesh
 meshOf r k = mesh (r .vertices) (r .positions) (r .arcs) (r .edges) (r .faces) k
 
-abbrev pub roomOf : Mesh → Room
-roomOf m = room (m .vertices) (m .positions) (m .arcs) (m .edges) (m .faces)
-
-pub size-back : (m n : Mesh) → SameSize m n → SameSize n m
-size-back m n z = record { vertices = sym (z .vertices); positions = sym (z .positions); arcs = sym (z .arcs); edges = sym (z .edges); faces = sym (z .faces) }
-
--- over a set of its sizes a set is copied whole
-pub copied : (s d : Mesh) (r : Room) → SameSize d s → r ≡ setOver (roomOf s) (roomOf d) → r ≡ roomOf s
-unfolding setOver
-copied s d r z e =
-    e ∙ (λ i. room (over-same (s .vertices) (d .vertices) (sym (z .vertices)) i) (over-same (s .positions) (d .positions) (sym (z .positions)) i) (over-same (s .arcs) (d .arcs) (sym (z .arcs)) i) (over-same (s .edges) (d .edges) (sym (z .edges)) i) (over-same (s .faces) (d .faces) (sym (z .faces)) i))
-
--- the same of all but the positions, where the arcs and the edges are already those of the set
+-- a set copied over one of its sizes, but for the positions, where the arcs and the edges are already those of the set
 pub copied-back : (s d : Mesh) (v a e f : Table) → SameSize d s → v ≡ over (s .vertices) (d .vertices) → a ≡ s .arcs → e ≡ s .edges → f ≡ over (s .faces) (d .faces) → (ps : List (List Float)) → room v ps a e f ≡ room (s .vertices) ps (s .arcs) (s .edges) (s .faces)
 copied-back s d v a e f z hv ha he hf ps i =
     room ((hv ∙ over-same (s .vertices) (d .vertices) (sym (z .vertices))) i) ps (ha i) (he i) ((hf ∙ over-same (s .faces) (d .faces) (sym (z .faces))) i)

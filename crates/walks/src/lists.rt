@@ -1,19 +1,15 @@
-// A vertex's list: its outgoing arcs, and the search of its outgoing or incoming arcs for the first that has no face.
+// A vertex's list: what comes after an arc, and the search of the outgoing or incoming arcs for the first that has no face.
 // It carries document 01's rule 3, "A vertex's outgoing list starts at its leading arc; after (a,x) comes next of (x,a)", and the form
 // that it names for the search: a loop that leaves by break with what it found, or none. Lists are older than the edges that an edit
 // puts in, so the tables as they were, the first arc and the bound are given beside the tables as they are.
 
-use crate::rings;
 use rules::ArcRow;
 use rules::EdgeRow;
-use rules::Ended;
-use rules::RING;
-use rules::Walk;
 use tables::rows;
 ghost use mathlib.Core.Path.{_≡_};
 ghost use mathlib.Core.List.{map};
 ghost use Rattle.rules.specs.Mesh.{oppositeOf};
-ghost use Rattle.rules.specs.Link.{turnIn, walk, walkOf};
+ghost use Rattle.rules.specs.Link.{turnIn, walk};
 ghost use Rattle.rules.specs.Insert.{facelessIn};
 
 // After (a,x) comes next of (x,a).
@@ -21,30 +17,6 @@ pub fn turn(arcs: &[ArcRow], edges: &[EdgeRow], x: u32) -> u32
     ensures { λ r. ⌜ r ≡ turnIn (now (arcs .entry)) (now (edges .entry)) x ⌝ }
 {
     rows::cell6(arcs, rows::opposite(arcs, edges, x), 2)
-}
-
-// The outgoing list from its first arc, of at most 64 arcs, with how it ended.
-pub fn out_list(arcs: &[ArcRow], edges: &[EdgeRow], first: u32) -> Walk
-    ensures { λ r. ⌜ r ≡ walkOf (turnIn (now (arcs .entry)) (now (edges .entry))) first 64 ⌝ }
-{
-    let mut at = [0u32; RING];
-    let mut len: usize = 0;
-    let mut x = first;
-    while len < RING {
-        if x == 0 {
-            return rings::walk_as(at, len, Ended::Open);
-        }
-        at[len] = x;
-        len += 1;
-        x = turn(arcs, edges, x);
-        if x == first {
-            return rings::walk_as(at, len, Ended::Closed);
-        }
-    }
-    if x == 0 {
-        return rings::walk_as(at, len, Ended::Open);
-    }
-    rings::walk_as(at, len, Ended::Cut)
 }
 
 // The first arc that has no face now in the outgoing list that started at first, or none. The list is walked in the tables as they were,

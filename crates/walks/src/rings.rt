@@ -41,7 +41,7 @@ pub fn ring(arcs: &[ArcRow], first: u32) -> Walk
 }
 
 // A walk of its places, its length and how it ended.
-pub fn walk_as(at: [u32; RING], len: usize, ended: Ended) -> Walk
+fn walk_as(at: [u32; RING], len: usize, ended: Ended) -> Walk
     ensures { λ r. ⌜ r ≡ record { links = record { at = at; len = len }; ended = ended } ⌝ }
 {
     let links = Links { at, len };
