@@ -1,11 +1,12 @@
 -- The edge of one pair is made in unused rows, so it makes and hides no arc of a pair that joins other vertices: the arcs found before the edges
 -- tell of every pair that no pair before has met. And rows that are used stay so.
-use Prim.Native.Nat.{ℕ, _+_, _-_, _≤_}
+use Prim.Native.Nat.{ℕ, _+_, _-_, _≤_, _<_}
 use native.Mathlib.Decide.{ℕ-discrete}
 use mathlib.Core.Path.{_≡_, refl, ap, sym, subst, _∙_}
 use mathlib.Core.Bool.{Bool, false, cond, _&&_}
 use mathlib.Core.List.{List, [], _∷_}
-use lib.ListN.{length, getD, set, length-set}
+use lib.ListN.{length, getD, set, take, length-set}
+use lib.Seq.{getD-take}
 use lib.Dec.{eqb}
 use borrow.Author.Tests.{eq-eqb, ne-eqb, eqb-true}
 use Rattle.rules.specs.declared.Links.{Links}
@@ -19,7 +20,7 @@ use Rattle.edges.proofs.Searches.{used-free, free-unused, used-arcs, used-edges
 use Rattle.pairs.specs.Pairs.{pairArc, arcsOf, sameTwo, meets, metBefore}
 use Rattle.pairs.proofs.Listed.{pair-listed, arcs-held}
 use Rattle.pairs.proofs.Below.{some-fewer, some-last, or-left, or-right}
-use Rattle.insert.specs.Perimeter.{edgeIn}
+use Rattle.insert.specs.Perimeter.{edgeIn, IsPair}
 use Rattle.insert.proofs.FoundOnce.{first-set}
 
 -- ---- other arcs
@@ -122,3 +123,12 @@ tells-more m o per xs i e h k q =
     h k (some-fewer p i q)
     ∙ sym (insert-apart m (getD per i 0) (getD per (after (length per) i) 0) (getD per k 0) (getD per (after (length per) k) 0) (some-last p i q))
     ∙ ap (λ (n : Mesh). arcBetween (n .arcs) (getD per k 0) (getD per (after (length per) k) 0)) (sym e)
+
+-- ---- a pair by the array that the perimeter stands in
+
+pub is-pair : (at : List ℕ) (n i j a b : ℕ) (met : Bool) → length (take n at) ≡ n → i < n → j ≡ after n i → j < n → a ≡ getD at i 0 → b ≡ getD at j 0 → met ≡ metBefore (take n at) i i → IsPair (take n at) i a b met
+is-pair at n i j a b met all on ej next ea eb em = record {
+  from = ea ∙ sym (getD-take n at i 0 on);
+  to = eb ∙ sym (getD-take n at j 0 next) ∙ ap (λ (k : ℕ). getD (take n at) k 0) (ej ∙ ap (λ (k : ℕ). after k i) (sym all));
+  before = em;
+}

@@ -1,7 +1,7 @@
 -- Face insert as the code goes about it: the perimeter's arcs are found once, and every link is written by that list.
 use Prim.Native.Nat.{ℕ, _≤_, _<_}
 use mathlib.Core.Path.{_≡_}
-use mathlib.Core.Bool.{false, cond}
+use mathlib.Core.Bool.{Bool, false, cond}
 use mathlib.Core.List.{List, [], map}
 use lib.ListN.{length, getD, take}
 use lib.Dec.{eqb}
@@ -16,6 +16,12 @@ use Rattle.pairs.specs.Pairs.{pairArc, metBefore}
 -- the edge of pair i is there, or is made
 abbrev pub edgeIn : List ℕ → ℕ → Mesh → Mesh
 edgeIn per i m = getOrInsertEdge m (getD per i 0) (getD per (after (length per) i) 0)
+
+-- pair i of a perimeter runs from a to b, and whether a pair before joins the same two
+pub record IsPair (per : List ℕ) (i a b : ℕ) (met : Bool) : Type 0 where
+  pub from : a ≡ getD per i 0
+  pub to : b ≡ getD per (after (length per) i) 0
+  pub before : met ≡ metBefore per i i
 
 -- what is known when it is asked for: x is the pair's arc, unless a pair before joins the same vertices; and every row before these is used
 pub record Asked (arcs edges : Table) (per : List ℕ) (i x : ℕ) (from : Lowest) : Type 0 where

@@ -22,7 +22,7 @@ ghost use Rattle.rules.specs.Mesh.{mesh, linksOf, listOf};
 ghost use Rattle.rules.specs.Insert.{edgesIn};
 ghost use Rattle.edges.specs.Free.{UsedBefore};
 ghost use Rattle.pairs.specs.Pairs.{arcsOf};
-ghost use Rattle.insert.specs.Perimeter.{edgeIn, Asked, Tells, listFrom, listsFrom, interiorBy, exteriorTo, exteriorBy};
+ghost use Rattle.insert.specs.Perimeter.{edgeIn, IsPair, Asked, Tells, listFrom, listsFrom, interiorBy, exteriorTo, exteriorBy};
 
 // The edge of a pair is in: from where the next one's rows may be looked for, and the pair's arc, 0 where it is not known.
 struct Edged {
@@ -59,24 +59,23 @@ fn arc_known(x: u32, a: u32, b: u32) -> u32
     x
 }
 
-// The edge of pair i is there, or is made: x is its arc as it was before the edges. That tells, unless a pair before joins the same vertices.
+// The edge of the pair i, from a to b, is there, or is made: x is its arc as it was before the edges. That tells, unless a pair before joins the same
+// vertices.
 fn edge_in(
     vertices: &mut [VertexRow],
     arcs: &mut [ArcRow],
     edges: &mut [EdgeRow],
     counters: &mut [u32; 3],
-    per: Links,
-    i: usize,
+    a: u32,
+    b: u32,
+    met: bool,
     x: u32,
     from: Lowest,
 ) -> Edged
-    requires { ⌜ Asked (now arcs) (now edges) (listOf per) i x from ⌝ }
-    ensures { λ r. ⌜ ((p : List (List Float)) (f : Table) → mesh (now (vertices .exit)) p (now (arcs .exit)) (now (edges .exit)) f (now (counters .exit)) ≡ edgeIn (listOf per) i (mesh (now (vertices .entry)) p (now (arcs .entry)) (now (edges .entry)) f (now (counters .entry)))) × ((UsedBefore (now (arcs .exit)) (r .from .arc) × UsedBefore (now (edges .exit)) (r .from .edge)) × Tells (now (arcs .exit)) (listOf per) i (r .arc)) ⌝ }
+    requires { ⌜ UsedBefore (now arcs) (from .arc) × UsedBefore (now edges) (from .edge) ⌝ }
+    ensures { λ r. ⌜ ((per : List ℕ) (i : ℕ) → IsPair per i a b met → Asked (now (arcs .entry)) (now (edges .entry)) per i x from → ((p : List (List Float)) (f : Table) → mesh (now (vertices .exit)) p (now (arcs .exit)) (now (edges .exit)) f (now (counters .exit)) ≡ edgeIn per i (mesh (now (vertices .entry)) p (now (arcs .entry)) (now (edges .entry)) f (now (counters .entry)))) × ((UsedBefore (now (arcs .exit)) (r .from .arc) × UsedBefore (now (edges .exit)) (r .from .edge)) × Tells (now (arcs .exit)) per i (r .arc))) ⌝ }
 {
-    let n = lists::size(per);
-    let a = lists::item(per, i);
-    let b = lists::item(per, lists::place_after(n, i));
-    if pairs::met_before(per, i) {
+    if met {
         edge::get_or_insert_edge(vertices, arcs, edges, counters, a, b);
         return Edged { from, arc: 0 };
     }
@@ -105,12 +104,25 @@ pub fn edges_in(
 {
     let n = lists::size(per);
     lists::known_few(per);
+    let ends = per.at;
     let mut at = [0u32; RING];
     let mut from = start;
     let mut i: usize = 0;
     while i < n {
+        let met = pairs::met_before(&ends, n, i);
+        let to = ends[lists::place_after(n, i)];
         let found = lists::item(xs, i);
-        let done = edge_in(vertices, arcs, edges, counters, per, i, found, from);
+        let done = edge_in(
+            vertices,
+            arcs,
+            edges,
+            counters,
+            ends[i],
+            to,
+            met,
+            found,
+            from,
+        );
         from = done.from;
         at[i] = done.arc;
         i += 1;

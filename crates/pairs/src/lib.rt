@@ -10,8 +10,8 @@ use rules::ArcRow;
 use rules::Links;
 use rules::RING;
 ghost use mathlib.Core.Path.{_≡_};
-ghost use Prim.Native.Nat.{_<_};
-ghost use lib.ListN.{length, getD};
+ghost use Prim.Native.Nat.{_<_, _≤_};
+ghost use lib.ListN.{length, getD, take};
 ghost use lib.Dec.{eqb};
 ghost use Rattle.rules.specs.Table.{after, orElse};
 ghost use Rattle.rules.specs.Mesh.{linksOf, listOf};
@@ -106,14 +106,17 @@ fn same_two(s: u32, d: u32, a: u32, b: u32) -> bool
     s == b
 }
 
-// Whether a pair before i joins the same two vertices as pair i.
-pub fn met_before(per: Links, i: usize) -> bool
-    requires { ⌜ i < length (listOf per) ⌝ }
-    ensures { λ r. ⌜ r ≡ metBefore (listOf per) i i ⌝ }
+// Says only how many places a list has.
+fn known_places(at: [u32; RING])
+    ensures { λ _. ⌜ length at ≡ 64 ⌝ }
+{}
+
+// Whether a pair before i joins the same two vertices as pair i, where these are n vertices of a perimeter.
+pub fn met_before(at: &[u32; RING], n: usize, i: usize) -> bool
+    requires { ⌜ (n ≤ 64) × (i < n) ⌝ }
+    ensures { λ r. ⌜ r ≡ metBefore (take n (now (at .entry))) i i ⌝ }
 {
-    let n = lists::size(per);
-    lists::known_few(per);
-    let at = per.at;
+    known_places(*at);
     let a = at[i];
     let b = at[lists::place_after(n, i)];
     let mut j: usize = 0;
