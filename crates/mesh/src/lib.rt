@@ -4,4 +4,4 @@
 // Document 01's "Order" and "How a call is held to its word".
 
 pub mod call;
-pub mod places; // places.rt: positions, put back where an edit is refused
+mod places; // places.rt: positions, put back where an edit is refused
