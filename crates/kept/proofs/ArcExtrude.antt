@@ -1,44 +1,52 @@
 -- An arc extrude: two vertices, the edge between them, and the bridge, which needs two edges more at most and one face. So 2 vertices, 3 edges
 -- and 1 face suffice.
-use Prim.Native.Nat.{ℕ, _+_, _≤_, zero-le}
+use Prim.Native.Nat.{ℕ, zero, suc, _+_, _≤_, _<_, zero-le}
 use native.Mathlib.Omega.{arith}
 use native.Mathlib.Decide.{ℕ-discrete}
 use mathlib.Core.Path.{_≡_, refl, ap, sym, subst, _∙_}
 use mathlib.Core.Bool.{cond}
-use mathlib.Core.List.{List}
+use mathlib.Core.List.{List, [], _∷_}
+use lib.ListN.{length}
 use lib.Dec.{T, eqb}
 use borrow.Author.Tests.{ne-eqb, eq-eqb}
 use Rattle.rules.specs.declared.Position.{Position}
 use Rattle.rules.specs.declared.Move.{Move}
 use Rattle.rules.specs.declared.Answer.the-variants.{Arc}
+use Rattle.rules.specs.Table.{has}
 use Rattle.rules.specs.Mesh.{Mesh, source, dest, findArc, vertexKind, nextKey}
 use Rattle.rules.specs.Point.{finitePosition}
 use Rattle.rules.specs.Link.{freeVertex, newVertex, newEdge, getOrInsertEdge}
 use Rattle.rules.specs.Step.{Step, answering}
+use Rattle.rules.specs.Insert.{insertWork}
 use Rattle.rules.specs.Edit.{corners, arcBridgeChecks, arcBridgeWork, arcBridge}
 use Rattle.rules.specs.Extrude.{movedPosition, arcExtrudeWork}
 use Rattle.rules.specs.Call.{needs, insertNeed, pairsWithout}
 use Rattle.proved.specs.Facts.{SoundFacts, IsVertex, IsArc}
 use Rattle.proved.proofs.Rows.{differ-T, in-table}
+use Rattle.proved.proofs.Around.{has-place, place-has}
 use Rattle.kept.specs.Frame.{AllButRings, ThreeCounters, Met, RoomForVertex, RoomForEdge, MadeEdge}
+use Rattle.kept.specs.Perimeter.{corner}
 use Rattle.kept.specs.Reaches.{KeepsEnds}
-use Rattle.kept.specs.Makers.{Makers, LikeRules, getOrInsertEdgeBy, arcBridgeBy, arcBridgeWorkBy, arcExtrudeWorkBy}
+use Rattle.kept.specs.Makers.{Makers, ruled, LikeRules, insertWorkBy, getOrInsertEdgeBy, arcBridgeBy, arcBridgeWorkBy, arcExtrudeWorkBy}
 use Rattle.kept.specs.Suffices.{Tally, Within}
+use Rattle.kept.specs.Local.{Local, FacesSince}
 use Rattle.kept.proofs.Base.{but-rings}
 use Rattle.kept.proofs.Find.{Between, arc-back, arc-some}
 use Rattle.kept.proofs.Free.{old-differs}
 use Rattle.kept.proofs.Vertex.{vertex-took, moved-from, vertex-ends, vertex-new, vertex-kept}
 use Rattle.kept.proofs.Edge.{made-edge, edge-kept}
 use Rattle.kept.proofs.Keeps.{keeps-none, keeps-onto, keeps-edge}
-use Rattle.kept.proofs.Makers.{vertex-by, edge-by}
+use Rattle.kept.proofs.Makers.{ruled-like, vertex-by, edge-by}
 use Rattle.kept.proofs.Tallies.{tally-none, tally-onto, left-met, tally-vertex, tally-edge}
-use Rattle.kept.proofs.Along.{along-same, along-so, along-checked, along-answering}
+use Rattle.kept.proofs.Along.{Along, along-same, along-so, along-checked, along-answering}
 use Rattle.kept.proofs.Put.{Put, along-insert}
-use Rattle.kept.proofs.ArcBridge.{bridge-passed, corners-perimeter, corners-need}
+use Rattle.kept.proofs.Local.{local-none, local-onto, vertex-local, edge-local, since-none, since-onto, vertex-since, edge-since, Reaching, put-left, put-since}
+use Rattle.kept.proofs.ArcBridge.{BridgePassed, bridge-passed, corners-perimeter, corners-need}
 use Rattle.kept.proofs.WithinNeed.{AllMade, Made}
 
 -- ---- an edge that is there or is made
 
+-- r is m with an edge between a and b: it was there, or was made. Either way no arc that was there changes
 pub record Got (m r : Mesh) (a b : ℕ) : Type 0 where
   pub base : AllButRings r
   pub keeps : KeepsEnds m r
@@ -46,6 +54,8 @@ pub record Got (m r : Mesh) (a b : ℕ) : Type 0 where
   pub edges : ℕ
   pub edges-few : edges ≤ 1
   pub tally : Tally m r 0 edges 0 0
+  pub local : Local (λ v. ⊥) m r
+  pub since : FacesSince m r
 
 pub got-edge : (m : Mesh) → AllButRings m → (a b : ℕ) → (findArc m a b ≡ 0 → RoomForEdge m a b) → Got m (getOrInsertEdge m a b) a b
 unfolding getOrInsertEdge
@@ -60,11 +70,11 @@ got-edge m s a b room = go (ℕ-discrete (findArc m a b) 0)
     made r =
         let w = made-edge m s a b r in
         let base = edge-kept w r s in
-        record { base = base; keeps = keeps-edge w; joined = arc-back (newEdge m a b .arcs) a b (found r w base); edges = 1; edges-few = omega arith; tally = tally-edge w }
+        record { base = base; keeps = keeps-edge w; joined = arc-back (newEdge m a b .arcs) a b (found r w base); edges = 1; edges-few = omega arith; tally = tally-edge w; local = edge-local s w; since = edge-since w r s }
 
     go : Dec (findArc m a b ≡ 0) → Got m (cond (eqb (findArc m a b) 0) (newEdge m a b) m) a b
     go (yes e) = rw (eq-eqb (findArc m a b) 0 e) (made (room e))
-    go (no n) = rw (ne-eqb (findArc m a b) 0 n) (record { base = s; keeps = keeps-none m; joined = arc-back (m .arcs) a b n; edges = 0; edges-few = zero-le; tally = tally-none m })
+    go (no n) = rw (ne-eqb (findArc m a b) 0 n) (record { base = s; keeps = keeps-none m; joined = arc-back (m .arcs) a b n; edges = 0; edges-few = zero-le; tally = tally-none m; local = local-none m; since = since-none m })
 
 -- ---- the edit
 
@@ -178,15 +188,18 @@ module _ (m : Mesh) (s : SoundFacts m) (three : ThreeCounters m) (x : ℕ) (u : 
         face-keys-needed = omega arith;
       }
 
+  -- its insert, behind the checks
+  put-along : BridgePassed m₃ x y → (by : Makers) → LikeRules by → Along (λ r. Put m₃ r per) (λ r. Put m₃ r per) (insertWork m₃ per 0) (insertWorkBy by m₃ per 0)
+  put-along q by like =
+      let p = corners-perimeter m₃ (got .base) x y u₃ (got .joined .exists) (q .insert-passed) in
+      along-insert m₃ (got .base) per p (omega (arith, got .keeps .counter-rows, k₂ .counter-rows)) needed by like 0 (λ r z. z) (λ r z. z)
+
   module _ (by : Makers) (like : LikeRules by) where
     bridge-made : Made m (needs 2 3 1 1) 0 (arcBridge m₃ x y) (arcBridgeBy by m₃ x y)
     unfolding arcBridge arcBridgeBy arcBridgeWork arcBridgeWorkBy
     bridge-made =
         along-checked m₃ (arcBridgeChecks m₃ x y) (arcBridgeWork m₃ x y) (arcBridgeWorkBy by m₃ x y) stopped
-        (λ h.
-        let q = bridge-passed m₃ x y h in
-        let p = corners-perimeter m₃ (got .base) x y u₃ (got .joined .exists) (q .insert-passed) in
-        along-so (along-insert m₃ (got .base) per p (omega (arith, got .keeps .counter-rows, k₂ .counter-rows)) needed by like 0 (λ r z. z) (λ r z. z)) (λ r z. all-made r z) bridged)
+        (λ h. along-so (put-along (bridge-passed m₃ x y h) by like) all-made bridged)
       where
         all-made : (r : Mesh) → Put m₃ r per → AllMade m r (needs 2 3 1 1)
         all-made r z = record { vertex-keys = omega (arith, t₃ .vertex-keys, z .tally .vertex-keys); face-keys = omega (arith, t₃ .face-keys, z .tally .face-keys) }
@@ -213,3 +226,43 @@ module _ (m : Mesh) (s : SoundFacts m) (three : ThreeCounters m) (x : ℕ) (u : 
     unfolding arcExtrudeWork
     arc-extrude-made =
         along-same refl same-start (along-answering (Arc (nextKey m vertexKind) (nextKey m₁ vertexKind)) (arcBridge m₃ x y) (arcBridgeBy by m₃ x y) bridge-made)
+
+  -- ---- how far it reaches
+
+  -- the ends of the arc
+  abbrev near : ℕ → Type 0
+  near v = T (has (source m x ∷ dest m x ∷ []) v)
+
+  -- a corner that was there before is an end of the arc
+  corner-near : (i : ℕ) → i < length per → IsVertex m (corner per i) → near (corner per i)
+  unfolding corners has
+  corner-near zero l q = rw (got .keeps .sources x (k₂ .arcs x u) ∙ k₂ .sources x u) (place-has (source m x ∷ dest m x ∷ []) 0 (omega arith))
+  corner-near (suc zero) l q = rw (got .keeps .dests x (k₂ .arcs x u) ∙ k₂ .dests x u) (place-has (source m x ∷ dest m x ∷ []) 1 (omega arith))
+  corner-near (suc (suc zero)) l q = absurd (old-differs (vertex-took m p₁ rv s) (source m₃ y) q (got .joined .leaves))
+  corner-near (suc (suc (suc zero))) l q = absurd (old-differs (vertex-took m₁ p₂ rv₁ s₁) (dest m₃ y) (k₁ .vertices (dest m₃ y) q) (got .joined .arrives))
+  corner-near (suc (suc (suc (suc i)))) l q = let z : ⊥ = omega arith in absurd z
+
+  on-corners : (v : ℕ) → IsVertex m v → T (has per v) → near v
+  on-corners v q h = let p = has-place per v h in subst near (p .2) (corner-near (p .0) (p .1) (subst (IsVertex m) (sym (p .2)) q))
+
+  -- the two vertices and the edge
+  start-local : Local near m m₃
+  start-local =
+      let t = but-rings m s in
+      let two : Local near m m₂ = local-onto t (vertex-local m p₁ rv s) (vertex-local m₁ p₂ rv₁ s₁) (λ v q h. h) (λ v q h. h) in
+      local-onto t two (got .local) (λ v q h. h) (λ v q h. absurd h)
+
+  start-since : FacesSince m m₃
+  start-since =
+      let two : FacesSince m m₂ = since-onto (vertex-since m p₁ rv s) (omega (arith, t₁ .face-keys)) (vertex-ends m₁ p₂ rv₁ s₁) (vertex-since m₁ p₂ rv₁ s₁) in
+      since-onto two (omega (arith, t₂ .face-keys)) (got .keeps) (got .since)
+
+  -- an arc extrude works among the ends of its arc
+  pub arc-extrude-reaching : Reaching near m (arcExtrudeWork m x move) (answering (Arc (nextKey m vertexKind) (nextKey m₁ vertexKind)) (arcBridgeBy ruled m₃ x y))
+  unfolding arcExtrudeWork arcBridge arcBridgeBy arcBridgeWork arcBridgeWorkBy
+  arc-extrude-reaching =
+      along-answering (Arc (nextKey m vertexKind) (nextKey m₁ vertexKind)) (arcBridge m₃ x y) (arcBridgeBy ruled m₃ x y)
+      (along-checked m₃ (arcBridgeChecks m₃ x y) (arcBridgeWork m₃ x y) (arcBridgeWorkBy ruled m₃ x y) (got .base, start-local)
+      (λ h.
+      let q = bridge-passed m₃ x y h in
+      along-so (put-along q ruled ruled-like) (λ r z. put-since start-since (omega (arith, t₃ .face-keys)) (q .insert-passed .no-conflict) z) (λ r z. put-left (but-rings m s) start-local z on-corners)))

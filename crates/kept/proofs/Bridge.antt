@@ -13,30 +13,34 @@ use lib.Dec.{T, eqb}
 use borrow.Author.Tests.{ne-eqb, eq-eqb}
 use Rattle.rules.specs.declared.Answer.the-variants.{Key, Done, Refused}
 use Rattle.rules.specs.declared.Refusal.the-variants.{TopologyNotFound, ArityNonUniform}
-use Rattle.rules.specs.Table.{after}
+use Rattle.rules.specs.Table.{after, has}
 use Rattle.rules.specs.Mesh.{Mesh, source, dest}
-use Rattle.rules.specs.Link.{ring}
+use Rattle.rules.specs.Link.{ring, ringVertices}
 use Rattle.rules.specs.Step.{step, accepted, checked}
 use Rattle.rules.specs.Insert.{insertWork}
 use Rattle.rules.specs.Edit.{remove, corners, arcBridgeChecks, arcBridgeWork, arcBridge, bridgeChecks, bridgeWork}
 use Rattle.rules.specs.Call.{Need, needs}
+use Rattle.proved.specs.Demand.{Holds}
 use Rattle.proved.specs.Facts.{SoundFacts, IsVertex, IsArc, IsFace}
 use Rattle.proved.proofs.Ring.{ring-counts, ring-from}
 use Rattle.kept.specs.Frame.{ThreeCounters, Met}
 use Rattle.kept.specs.Perimeter.{corner, following}
 use Rattle.kept.specs.Reaches.{KeepsEnds}
-use Rattle.kept.specs.Makers.{Makers, LikeRules, insertWorkBy, arcBridgeWorkBy, arcBridgeBy, bridgeWorkBy}
+use Rattle.kept.specs.Makers.{Makers, ruled, LikeRules, insertWorkBy, arcBridgeWorkBy, arcBridgeBy, bridgeWorkBy}
 use Rattle.kept.specs.Suffices.{Tally}
+use Rattle.kept.specs.Local.{Local, FacesSince}
 use Rattle.kept.proofs.Base.{but-rings}
 use Rattle.kept.proofs.Round.{after-on, after-last, after-low}
 use Rattle.kept.proofs.Find.{Between}
-use Rattle.kept.proofs.Remove.{ring-place-holds, remove-kept, remove-ends, remove-face}
+use Rattle.kept.proofs.Remove.{ring-place-holds, remove-kept, remove-spares, remove-ends, remove-face}
 use Rattle.kept.proofs.Passed.{Passed}
 use Rattle.kept.proofs.Halves.{ring-follows}
 use Rattle.kept.proofs.Keeps.{keeps-onto, keeps-between}
+use Rattle.kept.proofs.Makers.{ruled-like}
 use Rattle.kept.proofs.Tallies.{tally-onto, left-met, tally-remove}
 use Rattle.kept.proofs.Along.{Along, along-same, along-start, along-so, along-answering, along-loop}
-use Rattle.kept.proofs.Ladder.{Ladder, Climbed, Stopped, climbed-none, climb}
+use Rattle.kept.proofs.Local.{has-first, has-second, local-onto, ends-on-ring, remove-local, since-onto, remove-since, Reaching}
+use Rattle.kept.proofs.Ladder.{Ladder, Climbed, Stopped, climbed-none, climb, climbed-left, climbed-since}
 use Rattle.kept.proofs.ArcBridge.{bridge-passed}
 use Rattle.kept.proofs.WithinNeed.{Made, OnTop, climbed-within, climbed-all}
 
@@ -102,14 +106,20 @@ module _ (m : Mesh) (s : SoundFacts m) (three : ThreeCounters m) (f g : ℕ) (u 
   abbrev back : ℕ → ℕ
   back i = getD (reverse (ring m g)) i 0
 
+  forth-holds : (i : ℕ) → i < n → Holds m f (forth i)
+  forth-holds i l = ring-place-holds m f (s .rings f u) i l
+
   forth-arc : (i : ℕ) → i < n → IsArc m (forth i)
-  forth-arc i l = ring-place-holds m f (s .rings f u) i l .exists
+  forth-arc i l = forth-holds i l .exists
 
   back-at : (i : ℕ) → i < n → back i ≡ getD (ring m g) (n - 1 - i) 0
   back-at i l = from-end (ring m g) i (omega arith) ∙ ap (λ (z : ℕ). getD (ring m g) (z - 1 - i) 0) (sym even)
 
+  back-holds : (i : ℕ) → i < n → Holds m g (back i)
+  back-holds i l = rw (back-at i l) (ring-place-holds m g (s .rings g v) (n - 1 - i) (omega arith))
+
   back-arc : (i : ℕ) → i < n → IsArc m (back i)
-  back-arc i l = rw (back-at i l) (ring-place-holds m g (s .rings g v) (n - 1 - i) (omega arith) .exists)
+  back-arc i l = back-holds i l .exists
 
   -- the arcs of the second ring follow one another the other way
   back-follows : (k : ℕ) → k < n → source m (back k) ≡ dest m (back (after n k))
@@ -186,16 +196,61 @@ module _ (m : Mesh) (s : SoundFacts m) (three : ThreeCounters m) (f g : ℕ) (u 
         along-same (ap (λ (per : List ℕ). checked a c (insertWork a per 0)) e) (ap (λ (per : List ℕ). checked a c (insertWorkBy by a per 0)) e)
         (climb ladder k l a q by like c 0 (λ h. subst (λ (per : List ℕ). Passed a per per) e (bridge-passed a (forth k) (back k) h .insert-passed)))
 
+    -- pair after pair
+    bridge-along : Along (Climbed ladder n) (Stopped ladder) (bridgeWork m f g) (bridgeWorkBy by m f g)
+    unfolding bridgeWork bridgeWorkBy corners
+    bridge-along =
+        along-answering (Key 0) _ _
+        (along-loop (Climbed ladder) (λ i a. arcBridge a (forth i) (back i)) (λ i a. arcBridgeBy by a (forth i) (back i)) n (step m₂ Done) (step m₂ Done)
+        (along-start m₂ m₂ Done (climbed-none ladder) (0, zero-le, climbed-none ladder) refl) pair-along)
+
     -- the need of a bridge suffices
     pub bridge-made : Made m (bridgeNeed (length (ring m f))) 2 (bridgeWork m f g) (bridgeWorkBy by m f g)
-    unfolding bridgeWork bridgeWorkBy corners
+    unfolding corners
     bridge-made =
         let o : OnTop (bridgeNeed n) 0 0 0 2 n = record { vertices = refl; edges = omega arith; faces = omega (arith, at-least); keys = omega arith } in
-        along-so
-        (along-answering (Key 0) _ _
-        (along-loop (Climbed ladder) (λ i a. arcBridge a (forth i) (back i)) (λ i a. arcBridgeBy by a (forth i) (back i)) n (step m₂ Done) (step m₂ Done)
-        (along-start m₂ m₂ Done (climbed-none ladder) (0, zero-le, climbed-none ladder) refl) pair-along))
-        (climbed-all ladder (bridgeNeed n) t₂ o) (climbed-within ladder (bridgeNeed n) t₂ o)
+        along-so bridge-along (climbed-all ladder (bridgeNeed n) t₂ o) (climbed-within ladder (bridgeNeed n) t₂ o)
+
+  -- ---- how far it reaches
+
+  -- the vertices of both rings
+  abbrev near : ℕ → Type 0
+  near v = T (has (ringVertices m f ++ ringVertices m g) v)
+
+  -- the ends of the arcs of both rings
+  forth-near : (x : ℕ) → Holds m f x → near (source m x) × near (dest m x)
+  forth-near x h =
+      let b = ends-on-ring m s f u x h in
+      (has-first (ringVertices m f) (ringVertices m g) (source m x) (b .0), has-first (ringVertices m f) (ringVertices m g) (dest m x) (b .1))
+
+  back-near : (x : ℕ) → Holds m g x → near (source m x) × near (dest m x)
+  back-near x h =
+      let b = ends-on-ring m s g v x h in
+      (has-second (ringVertices m f) (ringVertices m g) (source m x) (b .0), has-second (ringVertices m f) (ringVertices m g) (dest m x) (b .1))
+
+  -- so are the corners
+  part-near : (k : ℕ) → k < n → (i : ℕ) → i < length (part k) → IsVertex m (corner (part k) i) → near (corner (part k) i)
+  unfolding corners
+  part-near k l zero b q = forth-near (forth k) (forth-holds k l) .0
+  part-near k l (suc zero) b q = forth-near (forth k) (forth-holds k l) .1
+  part-near k l (suc (suc zero)) b q = back-near (back k) (back-holds k l) .0
+  part-near k l (suc (suc (suc zero))) b q = back-near (back k) (back-holds k l) .1
+  part-near k l (suc (suc (suc (suc i)))) b q = let z : ⊥ = omega arith in absurd z
+
+  -- the second removal: what holds the face then held it before, with the same ends
+  second-near : (x : ℕ) → Holds m₁ g x → near (dest m₁ x)
+  second-near x h =
+      let was = remove-spares m s f u g ne v .no-more x h in
+      subst near (sym (remove-ends m s f u .dests x (was .exists))) (back-near x was .1)
+
+  -- a bridge works among the vertices of both rings
+  pub bridge-reaching : Reaching near m (bridgeWork m f g) (bridgeWorkBy ruled m f g)
+  unfolding corners
+  bridge-reaching =
+      let t = but-rings m s in
+      let start : Local near m m₂ = local-onto t (remove-local m s f u (λ x h. forth-near x h .1)) (remove-local m₁ s₁ g v₁ second-near) (λ v q h. h) (λ v q h. h) in
+      let since : FacesSince m m₂ = since-onto (remove-since m s f u) (omega (arith, tally-remove m s f u .face-keys)) (remove-ends m₁ s₁ g v₁) (remove-since m₁ s₁ g v₁) in
+      along-so (bridge-along ruled ruled-like) (climbed-since ladder since (omega (arith, t₂ .face-keys))) (climbed-left ladder t start part-near)
 
 -- ---- the checks
 

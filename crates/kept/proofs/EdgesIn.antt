@@ -11,7 +11,7 @@ use lib.ListN.{length, getD}
 use lib.Dec.{T, eqb}
 use borrow.Author.Tests.{ne-eqb, eq-eqb}
 use Rattle.rules.specs.Table.{there, Table, cell, count, unused, sumBelow, upTo, after, has}
-use Rattle.rules.specs.Mesh.{Mesh, source, dest, findArc, keyLimit, edgeKind, nextKey}
+use Rattle.rules.specs.Mesh.{Mesh, source, dest, edge, edgeArc, edgeOther, findArc, keyLimit, edgeKind, nextKey}
 use Rattle.rules.specs.Link.{newEdge, getOrInsertEdge}
 use Rattle.rules.specs.Insert.{arcAt, edgesIn}
 use Rattle.rules.specs.Call.{pairsWithout}
@@ -39,6 +39,10 @@ pub edges-said : (per : List ℕ) (m : Mesh) → edgesIn per m ≡ edgesUpTo per
 unfolding edgesIn edgesUpTo
 edges-said per m = refl
 
+-- a vertex of the perimeter is on it
+pub on-place : (per : List ℕ) {v : ℕ} (j : ℕ) → j < length per → v ≡ corner per j → T (has per v)
+on-place per j q p = subst (λ (z : ℕ). T (has per z)) (sym p) (place-has per j q)
+
 -- ---- a mesh that grows
 
 pub grown-none : (per : List ℕ) (m : Mesh) → Grown per m m
@@ -55,6 +59,17 @@ module _ {per : List ℕ} {m a : Mesh} (g : Grown per m a) where
   pub grown-vertex : (v : ℕ) → IsVertex m v → IsVertex a v
   grown-vertex v u = subst (λ (z : ℕ). T (not (eqb z 0))) (sym (g .vertex-cells v 0 (λ q. omega arith))) u
 
+  -- a new arc has a new edge: one that was there names two arcs that were
+  pub grown-new-edge : AllButRings m → AllButRings a → (x : ℕ) → IsArc a x → (IsArc m x → ⊥) → IsEdge m (edge a x) → ⊥
+  grown-new-edge s t x u o w = go (t .edge-names x u)
+    where
+      e : ℕ
+      e = edge a x
+
+      go : (edgeArc a e ≡ x) ⊎ (edgeOther a e ≡ x) → ⊥
+      go (inl q) = o (subst (IsArc m) (sym (g .edges-stay e 1 w) ∙ q) (s .both-arcs e w .first-exists))
+      go (inr q) = o (subst (IsArc m) (sym (g .edges-stay e 2 w) ∙ q) (s .both-arcs e w .second-exists))
+
   -- one edge more
   pub grown-more : {n : Mesh} {x y e : ℕ} (i : ℕ) → i < length per → MadeEdge a n (corner per i) (following per i) x y e → Grown per m n
   grown-more {n} {x} {y} i l w =
@@ -65,7 +80,7 @@ module _ {per : List ℕ} {m a : Mesh} (g : Grown per m a) where
         edges-stay = λ k c u. old-cell (w .edge-row) k c (grown-edge k u) ∙ g .edges-stay k c u;
         vertex-rows = w .vertex-rows ∙ g .vertex-rows;
         vertex-cells = λ v c q. w .vertex-cells v c q ∙ g .vertex-cells v c q;
-        vertices-stay = λ v c q. w .other-vertices v c (λ p. q (on-place i l p)) (λ p. q (on-place (after (length per) i) (after-low (length per) i l) p)) ∙ g .vertices-stay v c q;
+        vertices-stay = λ v c q. w .other-vertices v c (λ p. q (on-place per i l p)) (λ p. q (on-place per (after (length per) i) (after-low (length per) i l) p)) ∙ g .vertices-stay v c q;
         positions-stay = w .positions-stay ∙ g .positions-stay;
         faces-stay = w .faces-stay ∙ g .faces-stay;
         vertex-counter = w .vertex-counter ∙ g .vertex-counter;
@@ -73,9 +88,6 @@ module _ {per : List ℕ} {m a : Mesh} (g : Grown per m a) where
         counter-rows = w .counter-rows ∙ g .counter-rows;
       }
     where
-      on-place : {v : ℕ} (j : ℕ) → j < length per → v ≡ getD per j 0 → T (has per v)
-      on-place j q p = subst (λ (z : ℕ). T (has per z)) (sym p) (place-has per j q)
-
       new : (k : ℕ) → (IsArc m k → ⊥) → (k ≡ x) ⊎ ((k ≡ y) ⊎ IsArc a k) → NewArc per n k
       new k o (inl p) =
           record {

@@ -5,13 +5,14 @@ use native.Mathlib.Omega.{arith}
 use native.Mathlib.Decide.{ℕ-discrete}
 use mathlib.Core.Path.{_≡_, refl, ap, sym, subst, _∙_}
 use mathlib.Core.List.{List, [], _∷_, _++_}
+use mathlib.Core.Logic.{_⊎_, inl, inr}
 use lib.ListN.{length, getD, length-append, List·getD-append}
 use lib.Seq.{getD-append-add}
 use lib.Dec.{T}
 use Rattle.rules.specs.declared.Position.{Position}
 use Rattle.rules.specs.declared.Move.{Move}
 use Rattle.rules.specs.declared.Answer.the-variants.{Key}
-use Rattle.rules.specs.Table.{upTo, after}
+use Rattle.rules.specs.Table.{upTo, after, has}
 use Rattle.rules.specs.Mesh.{Mesh, opposite, faceKind, nextKey}
 use Rattle.rules.specs.Point.{finitePosition}
 use Rattle.rules.specs.Link.{ring, ringVertices, freeVertex, newVertex}
@@ -22,27 +23,31 @@ use Rattle.rules.specs.Extrude.{Copies, movedPosition, movedFinite, copyOne, co
 use Rattle.rules.specs.Call.{Need, needs, insertNeed, pairsWithout}
 use Rattle.proved.specs.Facts.{SoundFacts, IsVertex, IsFace}
 use Rattle.proved.proofs.Rows.{every-at}
+use Rattle.proved.proofs.Around.{has-place, place-has}
 use Rattle.proved.proofs.Ring.{ring-counts, ring-from}
 use Rattle.kept.specs.Frame.{ThreeCounters, Met, RoomForVertex}
 use Rattle.kept.specs.Perimeter.{Perimeter, corner, following}
 use Rattle.kept.specs.Reaches.{KeepsEnds}
-use Rattle.kept.specs.Makers.{Makers, LikeRules, insertWorkBy, insertFaceBy, copyOneBy, copiesBy, extrudeWorkBy}
+use Rattle.kept.specs.Makers.{Makers, ruled, LikeRules, insertWorkBy, insertFaceBy, copyOneBy, copiesBy, extrudeWorkBy}
 use Rattle.kept.specs.Suffices.{Tally, Within}
+use Rattle.kept.specs.Local.{Local, FacesSince}
 use Rattle.kept.proofs.Base.{but-rings}
 use Rattle.kept.proofs.Round.{after-low}
+use Rattle.kept.proofs.Free.{old-differs}
 use Rattle.kept.proofs.Find.{Between}
 use Rattle.kept.proofs.Opposite.{opposite-is}
-use Rattle.kept.proofs.Vertex.{moved-from, vertex-ends, vertex-new, vertex-kept}
+use Rattle.kept.proofs.Vertex.{vertex-took, moved-from, vertex-ends, vertex-new, vertex-kept}
 use Rattle.kept.proofs.Remove.{removed, remove-kept, remove-ends}
 use Rattle.kept.proofs.Passed.{Passed, passed, places-apart}
 use Rattle.kept.proofs.Halves.{vertices-length, ring-vertex, ring-pair}
 use Rattle.kept.proofs.Keeps.{keeps-onto, keeps-between}
-use Rattle.kept.proofs.Makers.{vertex-by}
+use Rattle.kept.proofs.Makers.{ruled-like, vertex-by}
 use Rattle.kept.proofs.Tallies.{tally-onto, left-met, tally-vertex, tally-remove}
 use Rattle.kept.proofs.Along.{Along, along-same, along-so, along-checked, along-answering, along-loop}
 use Rattle.kept.proofs.Put.{Put, along-insert}
+use Rattle.kept.proofs.Local.{local-onto, vertex-local, removed-local, since-onto, remove-since, vertex-since, Left, Reaching, put-left, put-since}
 use Rattle.kept.proofs.Pairs.{pairs-at-most}
-use Rattle.kept.proofs.Ladder.{Ladder, Climbed, climbed-none, climb}
+use Rattle.kept.proofs.Ladder.{Ladder, Climbed, Stopped, climbed-none, climb, climbed-left, climbed-since}
 use Rattle.kept.proofs.WithinNeed.{Made, OnTop, climbed-within, climbed-all}
 
 -- what an extrude at arity n needs
@@ -62,9 +67,13 @@ module _ (m : Mesh) (s : SoundFacts m) (three : ThreeCounters m) (f : ℕ) (u : 
       let h = ring-counts m f (ring-from m f (s .rings f u)) in
       (omega (arith, s .rings f u .at-least-3), omega (arith, s .rings f u .at-most-64))
 
+  -- those that it works among
+  abbrev near : ℕ → Type 0
+  near v = T (has vs v)
+
   -- ---- the copies
 
-  -- after the first k: so many links, of vertices that are there; old vertices are moved from where they were
+  -- after the first k: so many links, of vertices that are there and were not before; old vertices are moved from where they were
   record Copied (k : ℕ) (c : Copies) : Type 0 where
     sound : SoundFacts (c .tables)
     keeps : KeepsEnds m (c .tables)
@@ -72,6 +81,9 @@ module _ (m : Mesh) (s : SoundFacts m) (three : ThreeCounters m) (f : ℕ) (u : 
     moved : (v : ℕ) → IsVertex m v → movedPosition (c .tables) move v ≡ movedPosition m move v
     as-many : length (c .links) ≡ k
     there : (i : ℕ) → i < k → IsVertex (c .tables) (getD (c .links) i 0)
+    fresh : (i : ℕ) → i < k → IsVertex m (getD (c .links) i 0) → ⊥
+    local : Local near m (c .tables)
+    since : FacesSince m (c .tables)
 
   abbrev begun : Copies
   begun = record { tables = remove m f; links = [] }
@@ -86,6 +98,9 @@ module _ (m : Mesh) (s : SoundFacts m) (three : ThreeCounters m) (f : ℕ) (u : 
         moved = λ v q. ap (λ (a : Mesh). movedPosition a move v) (removed m s f u .1);
         as-many = refl;
         there = λ i l. let z : ⊥ = omega arith in absurd z;
+        fresh = λ i l. let z : ⊥ = omega arith in absurd z;
+        local = removed-local m s f u;
+        since = remove-since m s f u;
       }
 
   module _ (k : ℕ) (l : k < n) (c : Copies) (h : Copied k c) where
@@ -119,8 +134,18 @@ module _ (m : Mesh) (s : SoundFacts m) (three : ThreeCounters m) (f : ℕ) (u : 
           moved = λ x q. moved-from (c .tables) place room (h .sound) x (h .keeps .vertices x q) move ∙ h .moved x q;
           as-many = length-append (c .links) (freeVertex (c .tables) ∷ []) ∙ omega (arith, h .as-many);
           there = λ i q. at i q (ℕ-discrete i k);
+          fresh = λ i q. none i q (ℕ-discrete i k);
+          local = local-onto (but-rings m s) (h .local) (vertex-local (c .tables) place room (h .sound)) (λ x y z. z) (λ x y z. z);
+          since = since-onto (h .since) (omega (arith, h .tally .face-keys)) more (vertex-since (c .tables) place room (h .sound));
         }
       where
+        none : (i : ℕ) → i < suc k → Dec (i ≡ k) → IsVertex m (getD (c .links ++ (freeVertex (c .tables) ∷ [])) i 0) → ⊥
+        none i q (yes e) x =
+            let z : i ≡ length (c .links) + 0 = omega (arith, h .as-many) in
+            let y : IsVertex m (freeVertex (c .tables)) = rw (z, getD-append-add (c .links) (freeVertex (c .tables) ∷ []) 0 0) at x in
+            old-differs (vertex-took (c .tables) place room (h .sound)) (freeVertex (c .tables)) (h .keeps .vertices (freeVertex (c .tables)) y) refl
+        none i q (no ne) x = h .fresh i (omega arith) (rw (List·getD-append (c .links) (freeVertex (c .tables) ∷ []) 0 i (omega (arith, h .as-many))) at x)
+
         at : (i : ℕ) → i < suc k → Dec (i ≡ k) → IsVertex (newVertex (c .tables) place) (getD (c .links ++ (freeVertex (c .tables) ∷ [])) i 0)
         at i q (yes e) =
             let z : i ≡ length (c .links) + 0 = omega (arith, h .as-many) in
@@ -255,30 +280,38 @@ module _ (m : Mesh) (s : SoundFacts m) (three : ThreeCounters m) (f : ℕ) (u : 
 
   -- after the top and k walls
   abbrev Walled : ℕ → Mesh → Type 0
-  Walled k b = (r : Mesh) × (p : Put a r ds) × Climbed (ladder r p) k b
+  Walled k b = (r : Mesh) × (p : Put a r ds) × FacesSince m r × Climbed (ladder r p) k b
 
-  -- the copies alone
-  stopped : Within m a whole 1
-  stopped =
-      let e = vertices-length m s f u in
-      record { vertices = n; edges = 0; faces = 0; tally = copied .tally; vertices-needed = omega arith; edges-needed = zero-le; faces-needed = zero-le; face-keys-needed = zero-le }
+  -- wherever it stops: after the copies, or after the top and some walls
+  abbrev Halted : Mesh → Type 0
+  Halted b = (b ≡ a) ⊎ ((r : Mesh) × (p : Put a r ds) × Stopped (ladder r p) b)
+
+  -- within its need in either case
+  halted-within : (b : Mesh) → Halted b → Within m b whole 1
+  unfolding wall
+  halted-within b (inl e) =
+      let l = vertices-length m s f u in
+      subst (λ (z : Mesh). Within m z whole 1) (sym e)
+      (record { vertices = n; edges = 0; faces = 0; tally = copied .tally; vertices-needed = omega arith; edges-needed = zero-le; faces-needed = zero-le; face-keys-needed = zero-le })
+  halted-within b (inr (r, p, c)) = climbed-within (ladder r p) whole (t r p) (on-top r p) b c
 
   module _ (by : Makers) (like : LikeRules by) where
-    top-along : Along (Walled 0) (λ b. Within m b whole 1) (insertFace a ds 0) (insertFaceBy by a ds 0)
+    top-along : Along (Walled 0) Halted (insertFace a ds 0) (insertFaceBy by a ds 0)
     unfolding insertFace insertFaceBy wall
     top-along =
-        along-checked a (insertChecks a ds ds) (insertWork a ds 0) (insertWorkBy by a ds 0) stopped
-        (λ h. along-insert a (but-rings a (copied .sound)) ds (top-perimeter (passed a ds ds h)) counters-a top-need by like 0
-        (λ r p. (r, p, climbed-none (ladder r p)))
-        (λ r q. climbed-within (ladder (q .0) (q .1)) whole (t (q .0) (q .1)) (on-top (q .0) (q .1)) r (0, zero-le, q .2)))
+        along-checked a (insertChecks a ds ds) (insertWork a ds 0) (insertWorkBy by a ds 0) (inl refl)
+        (λ h. let q = passed a ds ds h in
+        along-insert a (but-rings a (copied .sound)) ds (top-perimeter q) counters-a top-need by like 0
+        (λ r p. (r, p, put-since (copied .since) (omega (arith, copied .tally .face-keys)) (q .no-conflict) p, climbed-none (ladder r p)))
+        (λ b z. inr (z .0, z .1, (0, zero-le, z .3))))
 
-    walls-along : Along (Walled n) (λ b. Within m b whole 1) (extrudeWork m f move) (answering (Key (nextKey m faceKind)) (upTo (λ i z. andThen z (λ b. insertFaceBy by b (wall vs ds i) 0)) n (insertFaceBy by a ds 0)))
+    walls-along : Along (Walled n) Halted (extrudeWork m f move) (answering (Key (nextKey m faceKind)) (upTo (λ i z. andThen z (λ b. insertFaceBy by b (wall vs ds i) 0)) n (insertFaceBy by a ds 0)))
     unfolding extrudeWork insertFace insertFaceBy wall
     walls-along =
         along-answering (Key (nextKey m faceKind)) _ _
         (along-loop Walled (λ i b. insertFace b (wall vs ds i) 0) (λ i b. insertFaceBy by b (wall vs ds i) 0) n (insertFace a ds 0) (insertFaceBy by a ds 0) top-along
         (λ k b l q. let r = q .0 in let p = q .1 in
-        along-so (climb (ladder r p) k l b (q .2) by like (insertChecks b (wall vs ds k) (wall vs ds k)) 0 (passed b (wall vs ds k) (wall vs ds k))) (λ d z. (r, p, z)) (climbed-within (ladder r p) whole (t r p) (on-top r p))))
+        along-so (climb (ladder r p) k l b (q .3) by like (insertChecks b (wall vs ds k) (wall vs ds k)) 0 (passed b (wall vs ds k) (wall vs ds k))) (λ d z. (r, p, q .2, z)) (λ d z. inr (r, p, z))))
 
     same-copies : extrudeWorkBy by m f move ≡ answering (Key (nextKey m faceKind)) (upTo (λ i z. andThen z (λ b. insertFaceBy by b (wall vs ds i) 0)) n (insertFaceBy by a ds 0))
     unfolding extrudeWorkBy
@@ -288,4 +321,34 @@ module _ (m : Mesh) (s : SoundFacts m) (three : ThreeCounters m) (f : ℕ) (u : 
     pub extrude-made : Made m (extrudeNeed (length (ring m f))) 1 (extrudeWork m f move) (extrudeWorkBy by m f move)
     unfolding wall
     extrude-made =
-        along-same refl same-copies (along-so walls-along (λ b q. climbed-all (ladder (q .0) (q .1)) whole (t (q .0) (q .1)) (on-top (q .0) (q .1)) b (q .2)) (λ b q. q))
+        along-same refl same-copies (along-so walls-along (λ b q. climbed-all (ladder (q .0) (q .1)) whole (t (q .0) (q .1)) (on-top (q .0) (q .1)) b (q .3)) halted-within)
+
+  -- ---- how far it reaches
+
+  -- of the vertices that were there before, none is a copy
+  no-copy : (v : ℕ) → IsVertex m v → T (has ds v) → near v
+  no-copy v q h = let p = has-place ds v h in absurd (copied .fresh (p .0) (omega (arith, p .1, copied .as-many)) (subst (IsVertex m) (sym (p .2)) q))
+
+  -- so a corner of a wall that was there before is on the ring
+  wall-near : (k : ℕ) → k < n → (i : ℕ) → i < length (wall vs ds k) → IsVertex m (corner (wall vs ds k) i) → near (corner (wall vs ds k) i)
+  unfolding wall
+  wall-near k l zero b q = place-has vs k l
+  wall-near k l (suc zero) b q = place-has vs (after n k) (after-low n k l)
+  wall-near k l (suc (suc zero)) b q = absurd (copied .fresh (after n k) (after-low n k l) q)
+  wall-near k l (suc (suc (suc zero))) b q = absurd (copied .fresh k l q)
+  wall-near k l (suc (suc (suc (suc i)))) b q = let z : ⊥ = omega arith in absurd z
+
+  -- what it leaves, wherever it stops
+  halted-left : (b : Mesh) → Halted b → Left near m b
+  unfolding wall
+  halted-left b (inl e) = subst (Left near m) (sym e) (but-rings a (copied .sound), copied .local)
+  halted-left b (inr (r, p, c)) =
+      let base = but-rings m s in
+      climbed-left (ladder r p) base (put-left base (copied .local) p no-copy .1) wall-near b c
+
+  -- an extrude works among the ring's vertices
+  pub extrude-reaching : Reaching near m (extrudeWork m f move) (extrudeWorkBy ruled m f move)
+  unfolding wall
+  extrude-reaching =
+      along-same refl (same-copies ruled ruled-like)
+      (along-so (walls-along ruled ruled-like) (λ b q. climbed-since (ladder (q .0) (q .1)) (q .2) (omega (arith, t (q .0) (q .1) .face-keys)) b (q .3)) halted-left)

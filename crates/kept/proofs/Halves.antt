@@ -3,11 +3,12 @@
 use Prim.Native.Nat.{ℕ, suc, _+_, _-_, _<_}
 use native.Mathlib.Omega.{arith}
 use native.Mathlib.Decide.{ℕ-discrete, decLt}
-use mathlib.Core.Path.{_≡_, ap, sym, _∙_}
+use mathlib.Core.Path.{_≡_, ap, sym, subst, _∙_}
 use mathlib.Core.List.{List}
 use lib.ListN.{length, getD, length-map}
+use lib.Dec.{T}
 use borrow.Author.Tests.{ne-eqb}
-use Rattle.rules.specs.Table.{after, sumBelow}
+use Rattle.rules.specs.Table.{after, has, sumBelow}
 use Rattle.rules.specs.Mesh.{Mesh, ringLimit, source, dest, next, faceArc, findArc}
 use Rattle.rules.specs.Link.{ring, ringVertices}
 use Rattle.rules.specs.Insert.{arcAt}
@@ -17,7 +18,7 @@ use Rattle.rules.proofs.Sums.{sum-zero}
 use Rattle.proved.specs.Demand.{holders, onward}
 use Rattle.proved.specs.Facts.{SoundFacts, RingFacts, IsVertex, IsFace}
 use Rattle.proved.proofs.Rows.{in-table}
-use Rattle.proved.proofs.Around.{times-none, times-more, walk-at}
+use Rattle.proved.proofs.Around.{times-none, times-more, walk-at, has-place, place-has}
 use Rattle.proved.proofs.Ring.{ring-counts, ring-from}
 use Rattle.kept.specs.Perimeter.{corner, following}
 use Rattle.kept.specs.Reaches.{KeepsEnds}
@@ -116,6 +117,12 @@ module _ (m : Mesh) (s : SoundFacts m) (f : ℕ) (u : IsFace m f) where
 
     pub half-vertex : (k : ℕ) → k < length half′ → IsVertex m (corner half′ k)
     half-vertex k l = rw (at k l) (ring-vertex (wrap (length vs) (i + k)) (wrapped k l))
+
+    -- and are the ring's
+    pub half-on : (v : ℕ) → T (has half′ v) → T (has vs v)
+    half-on v h =
+        let p = has-place half′ v h in
+        subst (λ (z : ℕ). T (has vs z)) (sym (at (p .0) (p .1)) ∙ p .2) (place-has vs (wrap (length vs) (i + p .0)) (wrapped (p .0) (p .1)))
 
     -- every pair but the last has its arc
     pub half-pair : (k : ℕ) → k + 1 < length half′ → (x : ℕ) × Between (m .arcs) (corner half′ k) (following half′ k) x

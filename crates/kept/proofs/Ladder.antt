@@ -10,18 +10,20 @@ use mathlib.Core.List.{List}
 use lib.ListN.{length}
 use lib.Dec.{T, eqb}
 use Rattle.rules.specs.declared.Answer.{Answer}
-use Rattle.rules.specs.Table.{after}
-use Rattle.rules.specs.Mesh.{Mesh, opposite}
+use Rattle.rules.specs.Table.{after, has}
+use Rattle.rules.specs.Mesh.{Mesh, opposite, faceKind, nextKey}
 use Rattle.rules.specs.Step.{accepted, checked}
 use Rattle.rules.specs.Insert.{insertWork}
 use Rattle.rules.specs.Call.{needs, insertNeed, pairsWithout}
 use Rattle.proved.specs.Facts.{IsVertex, IsFace}
 use Rattle.proved.proofs.Rows.{in-table}
+use Rattle.proved.proofs.Around.{has-place}
 use Rattle.kept.specs.Frame.{AllButRings, ThreeCounters, Met}
 use Rattle.kept.specs.Perimeter.{Perimeter, corner, following}
 use Rattle.kept.specs.Reaches.{KeepsEnds, Spared}
 use Rattle.kept.specs.Makers.{Makers, LikeRules, insertWorkBy}
 use Rattle.kept.specs.Suffices.{Tally}
+use Rattle.kept.specs.Local.{Local, FacesSince}
 use Rattle.kept.proofs.Round.{after-on, after-last}
 use Rattle.kept.proofs.Find.{Between}
 use Rattle.kept.proofs.Opposite.{opposite-is}
@@ -34,6 +36,7 @@ use Rattle.kept.proofs.Keeps.{keeps-none, keeps-onto, keeps-between}
 use Rattle.kept.proofs.Tallies.{tally-none, tally-onto, left-met}
 use Rattle.kept.proofs.Along.{Along, along-checked}
 use Rattle.kept.proofs.Put.{Put, along-insert}
+use Rattle.kept.proofs.Local.{local-none, local-onto, since-none, since-onto, Left, put-since}
 
 -- ---- the ladder
 
@@ -86,6 +89,10 @@ module _ {m : Mesh} (ladder : Ladder m) where
   abbrev Rung : Mesh → ℕ → Type 0
   Rung a k = (x : ℕ) × Between (a .arcs) (ladder .from k) (ladder .to k) x
 
+  -- the vertices of its faces
+  abbrev pub OnLadder : ℕ → Type 0
+  OnLadder v = (k : ℕ) × (k < n) × T (has (per k) v)
+
   -- after the first k faces
   pub record Climbed (k : ℕ) (a : Mesh) : Type 0 where
     pub base : AllButRings a
@@ -95,6 +102,8 @@ module _ {m : Mesh} (ladder : Ladder m) where
     pub edges-few : edges ≤ usedUp n k
     pub tally : Tally m a 0 edges k 0
     pub spared : (g : ℕ) → IsFace m g → Spared m a g
+    pub local : Local OnLadder m a
+    pub since : FacesSince m a
 
   -- wherever it stops, some of them are in
   abbrev pub Stopped : Mesh → Type 0
@@ -110,6 +119,8 @@ module _ {m : Mesh} (ladder : Ladder m) where
         edges-few = zero-le;
         tally = tally-none m;
         spared = λ g u. spared-none m g;
+        local = local-none m;
+        since = since-none m;
       }
 
   module _ (k : ℕ) (l : k < n) (a : Mesh) (w : Climbed k a) where
@@ -175,6 +186,8 @@ module _ {m : Mesh} (ladder : Ladder m) where
             edges-few = omega (arith, takes, w .edges-few);
             tally = tally-onto (w .tally) (p .tally) (omega arith) refl (omega arith) (omega arith);
             spared = λ g u. spared-onto (w .spared g u) (p .spares g (subst (λ (z : ℕ). T (not (eqb z 0))) (sym (w .spared g u .record-stays 0)) u) (not-on a (per k) (q .no-conflict) g (λ z. let b = in-table (m .faces) g u in omega arith)));
+            local = local-onto (ladder .base) (w .local) (p .local) (λ v u h. h) (λ v u h. (k, l, h));
+            since = put-since (w .since) (omega (arith, w .tally .face-keys)) (q .no-conflict) p;
           }
         where
           rung : (i : ℕ) → i ≤ suc k → i < n → Dec (i ≡ k) → Dec (i ≡ suc k) → Rung r i
@@ -196,3 +209,16 @@ module _ {m : Mesh} (ladder : Ladder m) where
     climb by like c mark pass =
         along-checked a c (insertWork a (per k) mark) (insertWorkBy by a (per k) mark) (k, omega arith, w)
         (λ h. along-insert a (w .base) (per k) (perimeter (pass h)) counters needed by like mark (climb-one (pass h)) (λ r z. (suc k, l, z)))
+
+-- ---- how far it reaches, after a start that is near R, where the vertices of its faces that were there before that start are near R too
+module _ {m a : Mesh} (ladder : Ladder a) {R : ℕ → Type 0} (s : AllButRings m) (start : Local R m a) (near : (k : ℕ) → k < ladder .n → (i : ℕ) → i < length (ladder .per k) → IsVertex m (corner (ladder .per k) i) → R (corner (ladder .per k) i)) where
+  -- what it leaves, wherever it stops
+  pub climbed-left : (r : Mesh) → Stopped ladder r → Left R m r
+  climbed-left r (k, l, c) = (c .base, local-onto s start (c .local) (λ v u h. h) on)
+    where
+      on : (v : ℕ) → IsVertex m v → OnLadder ladder v → R v
+      on v u (j, q, h) = let p = has-place (ladder .per j) v h in subst R (p .2) (near j q (p .0) (p .1) (subst (IsVertex m) (sym (p .2)) u))
+
+-- and its faces have come, after what has come before it
+pub climbed-since : {m a : Mesh} (ladder : Ladder a) → FacesSince m a → nextKey m faceKind ≤ nextKey a faceKind → (r : Mesh) → Climbed ladder (ladder .n) r → FacesSince m r
+climbed-since ladder first up r c = since-onto first up (c .keeps) (c .since)

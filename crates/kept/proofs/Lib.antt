@@ -28,10 +28,12 @@ pub mod Reaches
 pub mod Stretch
 pub mod Halves
 pub mod Keeps
+pub mod ResultSound
 pub mod Makers
 pub mod Tallies
 pub mod Along
 pub mod Put
+pub mod Local
 pub mod Pairs
 pub mod Ladder
 pub mod WithinNeed
@@ -45,6 +47,7 @@ pub mod Fresh
 pub mod FreshKept
 pub mod Never8
 pub mod NeedSuffices
+pub mod EditReach
 pub mod Steps
 pub mod CountersUp
 pub mod NeverTwice

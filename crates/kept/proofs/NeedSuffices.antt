@@ -44,16 +44,16 @@ use Rattle.kept.proofs.ArcBridge.{bridge-passed, arc-bridge-made}
 use Rattle.kept.proofs.ArcExtrude.{arc-extrude-made}
 
 -- an arc that is found by the keys of its ends joins them
-found-arc : (m : Mesh) (a b : ℕ) → (arcByKeys m a b ≡ 0 → ⊥) → Between (m .arcs) (findVertex m a) (findVertex m b) (arcByKeys m a b)
+pub found-arc : (m : Mesh) (a b : ℕ) → (arcByKeys m a b ≡ 0 → ⊥) → Between (m .arcs) (findVertex m a) (findVertex m b) (arcByKeys m a b)
 unfolding arcByKeys
 found-arc m a b n = arc-back (m .arcs) (findVertex m a) (findVertex m b) n
 
-arc-known : (m : Mesh) (x : ℕ) → T (accepted (arcExtrudeChecks m x)) → x ≡ 0 → ⊥
+pub arc-known : (m : Mesh) (x : ℕ) → T (accepted (arcExtrudeChecks m x)) → x ≡ 0 → ⊥
 unfolding arcExtrudeChecks accepted
 arc-known m x h e = rw (eq-eqb x 0 e) at h
 
 -- the moved ends of an arc that is found by keys
-ends-finite : (m : Mesh) (move : Move) (a b x : ℕ) → Between (m .arcs) a b x → T (movedFinite m move (b ∷ a ∷ [])) → T (finitePosition (movedPosition m move (dest m x))) × T (finitePosition (movedPosition m move (source m x)))
+pub ends-finite : (m : Mesh) (move : Move) (a b x : ℕ) → Between (m .arcs) a b x → T (movedFinite m move (b ∷ a ∷ [])) → T (finitePosition (movedPosition m move (dest m x))) × T (finitePosition (movedPosition m move (source m x)))
 unfolding movedFinite every
 ends-finite m move a b x h fin =
     let first = finitePosition (movedPosition m move b) in

@@ -10,7 +10,7 @@ use lib.Dec.{T, eqb}
 use Rattle.rules.specs.declared.Position.{Position}
 use Rattle.rules.specs.declared.Answer.the-variants.{Key, Done}
 use Rattle.rules.specs.declared.Edit.the-variants.{FacePoke}
-use Rattle.rules.specs.Table.{Table, cell, after}
+use Rattle.rules.specs.Table.{Table, cell, after, has}
 use Rattle.rules.specs.Mesh.{Mesh, Room, mark, findFace, vertexKind, nextKey}
 use Rattle.rules.specs.Point.{finitePosition}
 use Rattle.rules.specs.Link.{ring, ringVertices, freeVertex, newVertex}
@@ -19,6 +19,7 @@ use Rattle.rules.specs.Insert.{insertChecks, insertFace}
 use Rattle.rules.specs.Edit.{remove, pokeWork}
 use Rattle.rules.specs.Call.{Need, needs, given, checks, need, work, facePoke}
 use Rattle.proved.specs.Facts.{SoundFacts, IsVertex, IsFace}
+use Rattle.proved.proofs.Around.{place-has}
 use Rattle.proved.proofs.Ring.{ring-counts, ring-from}
 use Rattle.proved.proofs.Clauses.{facts}
 use Rattle.kept.specs.Frame.{ThreeCounters, Met, RoomForVertex}
@@ -26,12 +27,14 @@ use Rattle.kept.specs.Perimeter.{corner, following}
 use Rattle.kept.specs.Reaches.{KeepsEnds, Spared, SameRing}
 use Rattle.kept.specs.Makers.{Makers, ruled, LikeRules, insertFaceBy, pokeWorkBy}
 use Rattle.kept.specs.Suffices.{Tally}
+use Rattle.kept.specs.Local.{Local, FacesSince}
 use Rattle.kept.proofs.Base.{but-rings}
 use Rattle.kept.proofs.Counted.{met}
 use Rattle.kept.proofs.Round.{after-low}
 use Rattle.kept.proofs.Find.{Between, find-back}
+use Rattle.kept.proofs.Free.{old-differs}
 use Rattle.kept.proofs.Spared.{stays-spared, spared-onto, same-ring}
-use Rattle.kept.proofs.Vertex.{vertex-rest, vertex-ring, vertex-ends, vertex-new, vertex-kept}
+use Rattle.kept.proofs.Vertex.{vertex-took, vertex-rest, vertex-ring, vertex-ends, vertex-new, vertex-kept}
 use Rattle.kept.proofs.Remove.{remove-kept, remove-spares, remove-ends, found-face}
 use Rattle.kept.proofs.Passed.{passed}
 use Rattle.kept.proofs.Halves.{vertices-length, ring-vertex, ring-pair}
@@ -40,7 +43,8 @@ use Rattle.kept.proofs.Eight.{answer-zero}
 use Rattle.kept.proofs.Makers.{ruled-like, vertex-by}
 use Rattle.kept.proofs.Tallies.{tally-onto, left-met, tally-vertex, tally-remove}
 use Rattle.kept.proofs.Along.{Along, along-start, along-so, along-answering, along-loop}
-use Rattle.kept.proofs.Ladder.{Ladder, Climbed, Stopped, climbed-none, climb}
+use Rattle.kept.proofs.Local.{local-onto, vertex-local, removed-local, since-onto, remove-since, vertex-since, Reaching}
+use Rattle.kept.proofs.Ladder.{Ladder, Climbed, Stopped, climbed-none, climb, climbed-left, climbed-since}
 use Rattle.kept.proofs.WithinNeed.{Made, OnTop, climbed-within, climbed-all}
 
 -- what a poke at arity n needs
@@ -154,6 +158,27 @@ module _ (m : Mesh) (s : SoundFacts m) (three : ThreeCounters m) (f : ℕ) (u : 
       let vertex = stays-spared (λ c. ap (λ (z : Table). cell z g c) (vertex-rest m₁ pos rv₁ s₁ .2)) (vertex-ring m₁ pos rv₁ s₁ g) in
       let start = spared-onto removal vertex in
       spared-onto start (poke-along ruled ruled-like .goes h .spared g (subst (λ (z : ℕ). T (not (eqb z 0))) (sym (start .record-stays 0)) v))
+
+  -- ---- how far it reaches
+
+  -- the ring's vertices
+  abbrev near : ℕ → Type 0
+  near v = T (has vs v)
+
+  -- a corner that was there before is on the ring
+  part-near : (k : ℕ) → k < n → (i : ℕ) → i < length (part k) → IsVertex m (corner (part k) i) → near (corner (part k) i)
+  part-near k l zero b q = place-has vs k l
+  part-near k l (suc zero) b q = place-has vs (after n k) (after-low n k l)
+  part-near k l (suc (suc zero)) b q = absurd (old-differs (vertex-took m₁ pos rv₁ s₁) c (remove-ends m s f u .vertices c q) refl)
+  part-near k l (suc (suc (suc i))) b q = let z : ⊥ = omega arith in absurd z
+
+  -- a poke works among the ring's vertices
+  pub poke-reaching : Reaching near m (pokeWork m f pos) (pokeWorkBy ruled m f pos)
+  poke-reaching =
+      let t = but-rings m s in
+      let start : Local near m m₂ = local-onto t (removed-local m s f u) (vertex-local m₁ pos rv₁ s₁) (λ v q h. h) (λ v q h. h) in
+      let since : FacesSince m m₂ = since-onto (remove-since m s f u) (omega (arith, t₁ .face-keys)) (vertex-ends m₁ pos rv₁ s₁) (vertex-since m₁ pos rv₁ s₁) in
+      along-so (poke-along ruled ruled-like) (climbed-since ladder since (omega (arith, t₂ .face-keys))) (climbed-left ladder t start part-near)
 
 -- ---- the call
 

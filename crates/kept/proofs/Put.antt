@@ -1,20 +1,25 @@
 -- A face insert as a part of an edit, in mid-edit too: what it leaves of a mesh of which every clause of Sound holds but perhaps that on rings.
 use Prim.Native.Nat.{ℕ, _<_}
+use mathlib.Core.Path.{_≡_}
 use mathlib.Core.List.{List}
+use mathlib.Core.Logic.{_⊎_}
 use lib.ListN.{length}
-use Rattle.rules.specs.Mesh.{Mesh}
+use lib.Dec.{T}
+use Rattle.rules.specs.Table.{has, freeRow}
+use Rattle.rules.specs.Mesh.{Mesh, keyAt, faceKind, nextKey}
 use Rattle.rules.specs.Insert.{listsOf, putFace, insertWork}
 use Rattle.rules.specs.Call.{insertNeed, pairsWithout}
-use Rattle.proved.specs.Facts.{IsFace}
+use Rattle.proved.specs.Facts.{RingFacts, IsFace}
 use Rattle.kept.specs.Frame.{AllButRings, ThreeCounters, Met}
 use Rattle.kept.specs.Perimeter.{Perimeter, corner, following, ListsLeave}
 use Rattle.kept.specs.Reaches.{KeepsEnds, Spared}
+use Rattle.kept.specs.Local.{Local, GainsNothing}
 use Rattle.kept.specs.Makers.{Makers, LikeRules, insertWorkBy}
 use Rattle.kept.specs.Suffices.{Tally}
 use Rattle.kept.proofs.Find.{Between}
 use Rattle.kept.proofs.Lists.{lists-leave}
 use Rattle.kept.proofs.Insert.{insert-kept}
-use Rattle.kept.proofs.Reaches.{NotOn, insert-ends, insert-joined, insert-makes, insert-spares}
+use Rattle.kept.proofs.Reaches.{NotOn, insert-ends, insert-joined, insert-makes, insert-spares, insert-local, insert-gains, insert-cases, insert-new-ring, insert-new-key}
 use Rattle.kept.proofs.Makers.{insert-by}
 use Rattle.kept.proofs.Tallies.{tally-insert}
 use Rattle.kept.proofs.Along.{Along}
@@ -26,6 +31,13 @@ pub record Put (m r : Mesh) (per : List ℕ) : Type 0 where
   pub joined : (i : ℕ) → i < length per → (x : ℕ) × Between (r .arcs) (corner per i) (following per i) x
   pub tally : Tally m r 0 (pairsWithout m per) 1 0
   pub spares : (g : ℕ) → IsFace m g → NotOn m per g → Spared m r g
+  pub local : Local (λ v. T (has per v)) m r
+  pub gains : (g : ℕ) → IsFace m g → GainsNothing m r g
+  -- the new face
+  pub new : ℕ
+  pub face-cases : (g : ℕ) → IsFace r g → (g ≡ new) ⊎ IsFace m g
+  pub new-ring : RingFacts r new
+  pub new-key : keyAt (r .faces) new ≡ nextKey m faceKind
 
 module _ (m : Mesh) (s : AllButRings m) (per : List ℕ) (p : Perimeter m per) (k : ThreeCounters m) (w : Met m (insertNeed m per)) where
   pub put-in : (lists : List (List ℕ)) → ListsLeave m per lists → (mark : ℕ) → Put m (putFace m per lists mark) per
@@ -36,6 +48,12 @@ module _ (m : Mesh) (s : AllButRings m) (per : List ℕ) (p : Perimeter m per) (
         joined = insert-joined m s per p k w lists leave mark;
         tally = tally-insert (insert-makes m s per p k w lists leave mark);
         spares = insert-spares m s per p k w lists leave mark;
+        local = insert-local m s per p k w lists leave mark;
+        gains = insert-gains m s per p k w lists leave mark;
+        new = freeRow (m .faces);
+        face-cases = insert-cases m s per p k w lists leave mark;
+        new-ring = insert-new-ring m s per p k w lists leave mark;
+        new-key = insert-new-key m s per p k w lists leave mark;
       }
 
   pub along-insert : {P Q : Mesh → Type 0} (by : Makers) → LikeRules by → (mark : ℕ) → ((r : Mesh) → Put m r per → P r) → ((r : Mesh) → P r → Q r) → Along P Q (insertWork m per mark) (insertWorkBy by m per mark)

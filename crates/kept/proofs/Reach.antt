@@ -1,5 +1,5 @@
 -- How far the exterior of any accepted insert reaches: the arcs stay linked, and next and previous change only where an arc without a face is
--- one of the two.
+-- one of the two, and neither on an arc that has no end on the perimeter.
 use Prim.Native.Nat.{ℕ, _≤_, _<_}
 use native.Mathlib.Omega.{arith}
 use mathlib.Core.Path.{_≡_, refl, ap, sym, subst, _∙_}
@@ -15,8 +15,9 @@ use Rattle.rules.specs.Insert.{arcAt, facelessIn, exteriorAt, exterior}
 use Rattle.proved.specs.Facts.{IsArc}
 use Rattle.kept.specs.Frame.{AllButRings, connectIn, Linked}
 use Rattle.kept.specs.Perimeter.{Perimeter, corner, Inside, outer, afterOuter, beforeOuter, turned, Outside, ListsLeave, Reached}
-use Rattle.kept.proofs.Links.{connect-next-either, connect-previous-either, linked-connect, arcs-loop}
+use Rattle.kept.proofs.Links.{connect-other, connect-next-either, connect-previous-either, linked-connect, arcs-loop}
 use Rattle.kept.proofs.Round.{after-low, before, before-low, after-before}
+use Rattle.kept.proofs.EdgesIn.{on-place}
 use Rattle.kept.proofs.Opposite.{opposite-is}
 use Rattle.kept.proofs.Interior.{Joined}
 use Rattle.kept.proofs.Lists.{map-has, faceless-has}
@@ -117,10 +118,26 @@ module _ (m : Mesh) (s : AllButRings m) (per : List ℕ) (p : Perimeter m per) (
             last (inr a) (inr b) (inr (inl c)) = inr (inl c)
             last (inr a) (inr b) (inr (inr c)) = inr (inr (ap (λ (x : ℕ). cell t₀ x 4) (a ∙ b) ∙ c))
 
+        -- the rows written have an end on the perimeter
+        aways : (y c : ℕ) → (T (has per (source m y)) → ⊥) → (T (has per (dest m y)) → ⊥) → cell u y c ≡ cell t₀ y c
+        aways y c a b = connect-other v pv o y c not-before not-outer ∙ connect-other t o nx y c not-outer not-after ∙ w .away y c a b
+          where
+            al : after (length per) i < length per
+            al = after-low (length per) i l
+
+            not-outer : y ≡ o → ⊥
+            not-outer e = a (on-place per (after (length per) i) al (ap (source m) e ∙ outer-leaves m s per p j i l))
+
+            not-after : y ≡ nx → ⊥
+            not-after e = a (on-place per i l (ap (source m) e ∙ after-leaves .1 ∙ outer-arrives m s per p j i l))
+
+            not-before : y ≡ pv → ⊥
+            not-before e = b (on-place per (after (length per) i) al (ap (dest m) e ∙ sym (before-arrives .1) ∙ outer-leaves m s per p j i l))
+
         go : (b : Bool) → eqb (cell t o 4) 0 ≡ b → Outside m per t₀ (cond b u t) → Reached m per t₀ (cond b u t)
         go true e x =
             let z : cell t₀ o 4 ≡ 0 = sym (w .out .cells-stay o 4 (λ q. omega arith) (λ q. omega arith)) ∙ eqb-true (cell t o 4) 0 e in
-            record { out = x; linked = linked-connect m v lv pv o (before-arrives .0) is-outer (before-arrives .1); next-either = nexts z; previous-either = previouses z }
+            record { out = x; linked = linked-connect m v lv pv o (before-arrives .0) is-outer (before-arrives .1); next-either = nexts z; previous-either = previouses z; away = aways }
         go false e x = w
 
   -- the whole exterior, in the mesh with any faces and counters
@@ -128,5 +145,5 @@ module _ (m : Mesh) (s : AllButRings m) (per : List ℕ) (p : Perimeter m per) (
   unfolding exterior
   reach faces counters =
       arcs-loop (mesh (m .vertices) (m .positions) t₀ (m .edges) faces counters) (exteriorAt per lists) (λ k t. Reached m per t₀ t) (length per)
-      (record { out = record { ends = h .linked .ends; cells-stay = λ y c a b. refl; ring-stays = λ k c q. refl }; linked = h .linked; next-either = λ y. inl refl; previous-either = λ y. inl refl })
+      (record { out = record { ends = h .linked .ends; cells-stay = λ y c a b. refl; ring-stays = λ k c q. refl }; linked = h .linked; next-either = λ y. inl refl; previous-either = λ y. inl refl; away = λ y c a b. refl })
       (λ i t l w. (turned m per lists i t, exterior-turns m s per p j faces counters lists i t (w .out .ends), reach-one i l t w))

@@ -1,6 +1,7 @@
 -- What a face insert cannot reach, for any that is accepted: other arcs keep their ends, edge and face, arcs of other faces keep next and
--- previous, vertices outside the perimeter keep their record. And what answer 8 to a face insert means.
-use Prim.Native.Nat.{ℕ, suc, _+_, _*_, _<_}
+-- previous, arcs with no end on the perimeter keep their row, vertices outside it keep their record; no face that was there gains an arc. And
+-- what answer 8 to a face insert means.
+use Prim.Native.Nat.{ℕ, suc, _+_, _-_, _*_, _<_}
 use native.Mathlib.Omega.{arith}
 use mathlib.Core.Path.{_≡_, refl, ap, sym, subst, _∙_}
 use mathlib.Core.Bool.{Bool, true, false, not}
@@ -9,28 +10,28 @@ use mathlib.Core.Logic.{_⊎_, inl, inr}
 use lib.ListN.{length, length-set}
 use lib.Dec.{T, eqb, leb→le}
 use Rattle.rules.specs.declared.Edit.the-variants.{FaceInsert}
-use Rattle.rules.specs.Table.{Table, cell, there, freeRow, after, count, unused, sumBelow}
-use Rattle.rules.specs.Mesh.{Mesh, Room, mesh, ringLimit, source, dest, next, previous, face, vertexKind, edgeKind, faceKind, nextKey, oneUp}
+use Rattle.rules.specs.Table.{Table, cell, there, has, freeRow, after, count, unused, sumBelow}
+use Rattle.rules.specs.Mesh.{Mesh, Room, mesh, ringLimit, source, dest, next, previous, face, vertexKind, edgeKind, faceKind, nextKey, oneUp, keyAt}
 use Rattle.rules.specs.Insert.{arcAt, conflict, listsOf, putFace, insertWork}
 use Rattle.rules.specs.Step.{told}
 use Rattle.rules.specs.Sound.{sound}
 use Rattle.rules.specs.Call.{given, checks, need, pairsWithout, insertNeed, work, byKeys, faceInsert}
 use Rattle.proved.specs.Demand.{Holds}
-use Rattle.proved.specs.Facts.{SoundFacts, RingFacts, IsArc, IsFace}
+use Rattle.proved.specs.Facts.{SoundFacts, RingFacts, IsArc, IsEdge, IsFace}
 use Rattle.proved.proofs.Clauses.{facts, sound-from}
 use Rattle.kept.specs.Frame.{AllButRings, Took, ThreeCounters, Met}
 use Rattle.kept.specs.Perimeter.{ListsLeave, Perimeter, corner, following, Inserted}
 use Rattle.kept.specs.Reaches.{InsertReaches, InsertMakes, Spared, KeepsEnds}
+use Rattle.kept.specs.Local.{Local, GainsNothing}
 use Rattle.kept.proofs.Base.{but-rings}
-use Rattle.kept.proofs.Counted.{met, one-up, counted-here, counted-other}
-use Rattle.kept.proofs.Free.{old-differs, old-cell, unused-same}
+use Rattle.kept.proofs.Counted.{met, one-up, key-back, counted-here, counted-other}
+use Rattle.kept.proofs.Free.{old-differs, old-cell, there-cases, unused-same}
 use Rattle.kept.proofs.Spared.{spared-next, spared-previous}
-use Rattle.kept.proofs.NewRing.{among}
 use Rattle.proved.proofs.Rows.{true-T, in-table}
 use Rattle.kept.proofs.Find.{Between, arc-back, arc-some}
-use Rattle.kept.proofs.EdgesIn.{EdgesUpTo, needAt, grown-vertex}
+use Rattle.kept.proofs.EdgesIn.{EdgesUpTo, needAt, on-place, grown-vertex, grown-new-edge}
 use Rattle.kept.proofs.Interior.{pair-arc, pair-found}
-use Rattle.kept.proofs.Insert.{faces-took, insert-whole, withEdges, edges-up, perimeter-up, room-up, resultUp, Leaves, leaves, all-but-rings}
+use Rattle.kept.proofs.Insert.{faces-took, insert-whole, insert-ring, withEdges, edges-up, perimeter-up, room-up, resultUp, Leaves, leaves, all-but-rings}
 use Rattle.kept.proofs.Lists.{lists-leave}
 use Rattle.kept.proofs.Passed.{passed, pair-faceless, keys-perimeter}
 use Rattle.kept.proofs.Eight.{answer-zero, never-8}
@@ -112,13 +113,12 @@ module _ (m : Mesh) (s : AllButRings m) (per : List ℕ) (p : Perimeter m per) (
   face-inside : (y : ℕ) → face r y ≡ cell t₀ y 4
   face-inside y = made .reached .out .cells-stay y 4 (λ e. omega arith) (λ e. omega arith)
 
-  -- a face that was there, and that no arc of the perimeter holds, is spared, whether the result is sound or not
-  spares : (g : ℕ) → IsFace m g → NotOn m per g → Spared m r g
-  spares g u free =
+  -- a face that was there gains nothing, whether the result is sound or not
+  gains : (g : ℕ) → IsFace m g → GainsNothing m r g
+  gains g u =
       record {
         record-stays = λ c. old-cell took g c is-old ∙ ap (λ (z : Table). cell z g c) (up .grown .faces-stay);
-        still-hold = λ x h. record { exists = still x (older x (h .exists)); its-face = its-face x h };
-        no-more = λ x h. before x h (among (arcAt m₁ per) (length per) x);
+        no-more = before;
         next-or = λ x h. nexts x h (made .reached .next-either x);
         previous-or = λ x h. previouses x h (made .reached .previous-either x);
       }
@@ -129,32 +129,41 @@ module _ (m : Mesh) (s : AllButRings m) (per : List ℕ) (p : Perimeter m per) (
       none : g ≡ 0 → ⊥
       none z = let l = in-table (m .faces) g u in omega arith
 
-      off-ring : (x : ℕ) → Holds m g x → (i : ℕ) → i < length per → x ≡ arcAt m₁ per i → ⊥
-      off-ring x h i l e = free i l (subst (Holds m g) (sym (pair-before x i (h .exists) l e)) h)
+      -- the perimeter's arcs hold the new face
+      off-ring : (x : ℕ) → Holds r g x → (i : ℕ) → i < length per → x ≡ arcAt m₁ per i → ⊥
+      off-ring x h i l e = old-differs took g is-old (sym (h .its-face) ∙ ap (face r) e ∙ whole .face-on i l)
 
-      its-face : (x : ℕ) → Holds m g x → face r x ≡ g
-      its-face x h = whole .faces-stay x (off-ring x h) ∙ old x 4 (h .exists) ∙ h .its-face
-
-      before : (x : ℕ) → Holds r g x → ((i : ℕ) × (i < length per) × (x ≡ arcAt m₁ per i)) ⊎ ((i : ℕ) → i < length per → x ≡ arcAt m₁ per i → ⊥) → Holds m g x
-      before x h (inl q) = absurd (old-differs took g is-old (sym (h .its-face) ∙ ap (face r) (q .2) ∙ whole .face-on (q .0) (q .1)))
-      before x h (inr o) = go (there (m .arcs) x) refl
+      before : (x : ℕ) → Holds r g x → Holds m g x
+      before x h = go (there (m .arcs) x) refl
         where
           its : face m₁ x ≡ g
-          its = sym (whole .faces-stay x o) ∙ h .its-face
+          its = sym (whole .faces-stay x (off-ring x h)) ∙ h .its-face
 
           go : (b : Bool) → there (m .arcs) x ≡ b → Holds m g x
           go true e = let v : IsArc m x = true-T e in record { exists = v; its-face = sym (old x 4 v) ∙ its }
           go false e = absurd (none (sym its ∙ up .grown .arcs-new x (was x (h .exists)) (λ v. subst T e v) .blank .no-face))
 
-      nexts : (x : ℕ) → Holds m g x → (cell t x 2 ≡ cell t₀ x 2) ⊎ ((cell t₀ x 4 ≡ 0) ⊎ (cell t₀ (cell t x 2) 4 ≡ 0)) → (next r x ≡ next m x) ⊎ (Holds r g (next r x) → ⊥)
-      nexts x h (inl e) = inl (e ∙ made .in-ring .others-stay x 2 (off-ring x h) ∙ old x 2 (h .exists))
-      nexts x h (inr (inl e)) = absurd (none (sym (its-face x h) ∙ face-inside x ∙ e))
+      nexts : (x : ℕ) → Holds r g x → (cell t x 2 ≡ cell t₀ x 2) ⊎ ((cell t₀ x 4 ≡ 0) ⊎ (cell t₀ (cell t x 2) 4 ≡ 0)) → (next r x ≡ next m x) ⊎ (Holds r g (next r x) → ⊥)
+      nexts x h (inl e) = inl (e ∙ made .in-ring .others-stay x 2 (off-ring x h) ∙ old x 2 (before x h .exists))
+      nexts x h (inr (inl e)) = absurd (none (sym (h .its-face) ∙ face-inside x ∙ e))
       nexts x h (inr (inr e)) = inr (λ q. none (sym (q .its-face) ∙ face-inside (next r x) ∙ e))
 
-      previouses : (x : ℕ) → Holds m g x → (cell t x 3 ≡ cell t₀ x 3) ⊎ ((cell t₀ x 4 ≡ 0) ⊎ (cell t₀ (cell t x 3) 4 ≡ 0)) → (previous r x ≡ previous m x) ⊎ (Holds r g (previous r x) → ⊥)
-      previouses x h (inl e) = inl (e ∙ made .in-ring .others-stay x 3 (off-ring x h) ∙ old x 3 (h .exists))
-      previouses x h (inr (inl e)) = absurd (none (sym (its-face x h) ∙ face-inside x ∙ e))
+      previouses : (x : ℕ) → Holds r g x → (cell t x 3 ≡ cell t₀ x 3) ⊎ ((cell t₀ x 4 ≡ 0) ⊎ (cell t₀ (cell t x 3) 4 ≡ 0)) → (previous r x ≡ previous m x) ⊎ (Holds r g (previous r x) → ⊥)
+      previouses x h (inl e) = inl (e ∙ made .in-ring .others-stay x 3 (off-ring x h) ∙ old x 3 (before x h .exists))
+      previouses x h (inr (inl e)) = absurd (none (sym (h .its-face) ∙ face-inside x ∙ e))
       previouses x h (inr (inr e)) = inr (λ q. none (sym (q .its-face) ∙ face-inside (previous r x) ∙ e))
+
+  -- and is spared, if no arc of the perimeter holds it
+  spares : (g : ℕ) → IsFace m g → NotOn m per g → Spared m r g
+  spares g u free =
+      let a = gains g u in
+      record { record-stays = a .record-stays; still-hold = hold; no-more = a .no-more; next-or = λ x h. a .next-or x (hold x h); previous-or = λ x h. a .previous-or x (hold x h) }
+    where
+      off-ring : (x : ℕ) → Holds m g x → (i : ℕ) → i < length per → x ≡ arcAt m₁ per i → ⊥
+      off-ring x h i l e = free i l (subst (Holds m g) (sym (pair-before x i (h .exists) l e)) h)
+
+      hold : (x : ℕ) → Holds m g x → Holds r g x
+      hold x h = record { exists = still x (older x (h .exists)); its-face = whole .faces-stay x (off-ring x h) ∙ old x 4 (h .exists) ∙ h .its-face }
 
   -- in a result that is sound, the ring of a face that was there is sound
   old-ring : SoundFacts r → (g : ℕ) → IsFace m g → NotOn m per g → RingFacts r g
@@ -215,6 +224,23 @@ module _ (m : Mesh) (s : AllButRings m) (per : List ℕ) (p : Perimeter m per) (
         counter-rows = length-set (m₁ .counters) faceKind (oneUp (nextKey m₁ faceKind)) ∙ up .grown .counter-rows;
       }
 
+  -- only rows of arcs with an end on the perimeter change
+  local : Local (λ v. T (has per v)) m r
+  local =
+      record {
+        keeps = ends-kept;
+        edge-stays = λ x u. whole .ends .edge-stays x ∙ old x 5 u;
+        edges-stay = up .grown .edges-stay;
+        new-edge = λ x u o e. grown-new-edge (up .grown) s s₁ x (was x u) o (subst (IsEdge m) (whole .ends .edge-stays x) e);
+        away = rows;
+      }
+    where
+      rows : (x c : ℕ) → IsArc m x → (T (has per (source m x)) → ⊥) → (T (has per (dest m x)) → ⊥) → cell (r .arcs) x c ≡ cell (m .arcs) x c
+      rows x c u a b =
+          made .reached .away x c (rw (old x 0 u) a) (rw (old x 1 u) b)
+          ∙ made .in-ring .others-stay x c (λ i l e. a (on-place per i l (sym (old x 0 u) ∙ ap (source m₁) e ∙ joins i l .leaves)))
+          ∙ old x c u
+
   -- every arc and vertex that was there is there, and every pair has its arc
   pub insert-ends : KeepsEnds m (putFace m per lists mark)
   insert-ends = subst (KeepsEnds m) (sym (made .is)) ends-kept
@@ -232,6 +258,32 @@ module _ (m : Mesh) (s : AllButRings m) (per : List ℕ) (p : Perimeter m per) (
   -- any insert spares every face that was there, and that no arc of its perimeter holds
   pub insert-spares : (g : ℕ) → IsFace m g → NotOn m per g → Spared m (putFace m per lists mark) g
   insert-spares g u free = subst (λ (n : Mesh). Spared m n g) (sym (made .is)) (spares g u free)
+
+  -- and no face that was there gains anything
+  pub insert-gains : (g : ℕ) → IsFace m g → GainsNothing m (putFace m per lists mark) g
+  insert-gains g u = subst (λ (n : Mesh). GainsNothing m n g) (sym (made .is)) (gains g u)
+
+  -- any insert works among the vertices of its perimeter
+  pub insert-local : Local (λ v. T (has per v)) m (putFace m per lists mark)
+  insert-local = subst (Local (λ v. T (has per v)) m) (sym (made .is)) local
+
+  -- the new face: all others were there, its ring is sound, and its key is the next
+  pub insert-cases : (g : ℕ) → IsFace (putFace m per lists mark) g → (g ≡ freeRow (m .faces)) ⊎ IsFace m g
+  insert-cases g u = rw (up .grown .faces-stay) at (there-cases took g (subst (λ (n : Mesh). IsFace n g) (made .is) u))
+
+  pub insert-new-ring : RingFacts (putFace m per lists mark) (freeRow (m .faces))
+  insert-new-ring =
+      let a = insert-ring m₁ s₁ per p₁ (up .joined) (room-up m s per p k w) mark t₀ (made .in-ring) t (made .reached .linked) (made .reached .out) in
+      let b = subst (λ (n : Mesh). RingFacts n f) (sym (made .is)) a in
+      subst (λ (z : Table). RingFacts (putFace m per lists mark) (freeRow z)) (up .grown .faces-stay) b
+
+  pub insert-new-key : keyAt (putFace m per lists mark .faces) (freeRow (m .faces)) ≡ nextKey m faceKind
+  insert-new-key =
+      ap (λ (z : Table). keyAt (putFace m per lists mark .faces) (freeRow z)) (sym (up .grown .faces-stay))
+      ∙ ap (λ (n : Mesh). keyAt (n .faces) f) (made .is)
+      ∙ ap (λ (z : ℕ). z - 1) (took .row 0)
+      ∙ key-back (nextKey m₁ faceKind) (room-up m s per p k w .a-key)
+      ∙ up .grown .face-counter
 
   -- an insert whose result is sound reaches no further
   pub insert-reaches : T (not (conflict m per)) → SoundFacts (putFace m per lists mark) → InsertReaches m (putFace m per lists mark) per (freeRow (m .faces)) mark

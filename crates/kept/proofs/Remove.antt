@@ -206,6 +206,10 @@ module _ (m : Mesh) (s : SoundFacts m) (f : ℕ) (u : IsFace m f) where
   pub remove-face : (g : ℕ) → (g ≡ f → ⊥) → IsFace m g → IsFace (remove m f) g
   remove-face g ne h = subst (λ (n : Mesh). IsFace n g) (sym (removed .1)) (face-still g ne h)
 
+  -- and what is one still is another, and was one
+  pub remove-was : (g : ℕ) → IsFace (remove m f) g → (g ≡ f → ⊥) × IsFace m g
+  remove-was g h = face-was g (subst (λ (n : Mesh). IsFace n g) (removed .1) h)
+
   pub remove-rest : (remove m f .edges ≡ m .edges) × (remove m f .counters ≡ m .counters) × (remove m f .vertices ≡ m .vertices)
   remove-rest = (ap (λ (n : Mesh). n .edges) (removed .1), ap (λ (n : Mesh). n .counters) (removed .1), ap (λ (n : Mesh). n .vertices) (removed .1))
 

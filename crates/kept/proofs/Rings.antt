@@ -1,4 +1,4 @@
--- A ring whose arcs keep their rows is the same ring: as many arcs hold the face, in the same order.
+-- A ring whose arcs are kept is the same ring: as many arcs hold the face, in the same order. So it is where they keep their rows.
 use Prim.Native.Nat.{ℕ, zero, suc, _+_, _-_, _≤_, _<_}
 use native.Mathlib.Omega.{arith}
 use native.Mathlib.Decide.{ℕ-discrete}
@@ -7,8 +7,8 @@ use mathlib.Core.Bool.{not}
 use mathlib.Core.List.{[]}
 use lib.ListN.{length, getD}
 use lib.Dec.{T, eqb}
-use Rattle.rules.specs.Table.{cell, sumBelow}
-use Rattle.rules.specs.Mesh.{Mesh, next, previous, faceArc}
+use Rattle.rules.specs.Table.{sumBelow}
+use Rattle.rules.specs.Mesh.{Mesh, source, next, previous, faceArc}
 use Rattle.rules.proofs.Counts.{bit}
 use Rattle.rules.proofs.Sums.{same-test, sum-ext, count-sum}
 use Rattle.proved.specs.Demand.{holds, Holds, holders, onward}
@@ -60,50 +60,77 @@ module _ (m : Mesh) (f : ℕ) (r : RingFacts m f) where
       go : (k : ℕ) × (k < holders m f) × (onward m f k ≡ x) → Holds m f (previous m x)
       go w = at (w .0) (w .1) (w .2)
 
--- ---- a ring that stays
+-- ---- a ring that is kept, by what its facts read
 
-module _ (m n : Mesh) (f : ℕ) (s : RingStays m n f) (r : RingFacts m f) where
-  still-holds : (x : ℕ) → Holds m f x → Holds n f x
-  still-holds x h =
-      record { exists = subst (λ (z : ℕ). T (not (eqb z 0))) (sym (s .keeps x 0 h)) (h .exists); its-face = s .keeps x 4 h ∙ h .its-face }
+-- the ring of the face f is the same in n as in m: its record names the same arc, and the arcs that hold it are the same, with their sources, and
+-- with what follows and precedes them
+pub record RingKept (m n : Mesh) (f : ℕ) : Type 0 where
+  pub first : faceArc n f ≡ faceArc m f
+  pub rows : length (n .arcs) ≡ length (m .arcs)
+  pub still-hold : (x : ℕ) → Holds m f x → Holds n f x
+  pub no-more : (x : ℕ) → Holds n f x → Holds m f x
+  pub sources : (x : ℕ) → Holds m f x → source n x ≡ source m x
+  pub nexts : (x : ℕ) → Holds m f x → next n x ≡ next m x
+  pub previouses : (x : ℕ) → Holds m f x → previous n x ≡ previous m x
 
+module _ (m n : Mesh) (f : ℕ) (s : RingKept m n f) (r : RingFacts m f) where
   as-many : holders n f ≡ holders m f
-  as-many = holders-same m n f (s .rows) still-holds (s .no-more)
+  as-many = holders-same m n f (s .rows) (s .still-hold) (s .no-more)
 
   onward-same : (k : ℕ) → k ≤ holders m f → onward n f k ≡ onward m f k
   onward-same zero l = times-none (next n) (faceArc n f) ∙ s .first ∙ sym (times-none (next m) (faceArc m f))
   onward-same (suc k) l =
       times-more (next n) k (faceArc n f)
       ∙ ap (next n) (onward-same k (omega arith))
-      ∙ s .keeps (onward m f k) 2 (r .each-holds k l)
+      ∙ s .nexts (onward m f k) (r .each-holds k l)
       ∙ sym (times-more (next m) k (faceArc m f))
 
   low : (k : ℕ) → k < holders n f → k < holders m f
   low k l = rw as-many at l
 
-  pub ring-stays : RingFacts n f
-  ring-stays =
+  pub ring-kept : RingFacts n f
+  ring-kept =
       record {
         returns = ap (onward n f) as-many ∙ onward-same (holders m f) (omega arith) ∙ r .returns ∙ sym (s .first);
         not-before = λ k a l e. r .not-before k a (low k l) (sym (onward-same k (omega (arith, low k l))) ∙ e ∙ s .first);
         at-least-3 = rw as-many (r .at-least-3);
         at-most-64 = rw as-many (r .at-most-64);
-        sources-differ = λ j k a b e. r .sources-differ j k (low j a) (low k b) (sym (at 0 j (low j a)) ∙ e ∙ at 0 k (low k b));
-        each-holds = λ k l. subst (Holds n f) (sym (onward-same k (omega (arith, low k l)))) (still-holds (onward m f k) (r .each-holds k (low k l)));
+        sources-differ = λ j k a b e. r .sources-differ j k (low j a) (low k b) (sym (from j (low j a)) ∙ e ∙ from k (low k b));
+        each-holds = λ k l. subst (Holds n f) (sym (onward-same k (omega (arith, low k l)))) (s .still-hold (onward m f k) (r .each-holds k (low k l)));
         each-met = λ x h. met x (r .each-met x (s .no-more x h));
         runs-back = λ k l. back k (low k l);
       }
     where
-      -- a cell of the arc k steps on
-      at : (c k : ℕ) → k < holders m f → cell (n .arcs) (onward n f k) c ≡ cell (m .arcs) (onward m f k) c
-      at c k l = ap (λ (x : ℕ). cell (n .arcs) x c) (onward-same k (omega arith)) ∙ s .keeps (onward m f k) c (r .each-holds k l)
+      -- the source of the arc k steps on, and the arc after it
+      from : (k : ℕ) → k < holders m f → source n (onward n f k) ≡ source m (onward m f k)
+      from k l = ap (source n) (onward-same k (omega arith)) ∙ s .sources (onward m f k) (r .each-holds k l)
+
+      after : (k : ℕ) → k < holders m f → next n (onward n f k) ≡ next m (onward m f k)
+      after k l = ap (next n) (onward-same k (omega arith)) ∙ s .nexts (onward m f k) (r .each-holds k l)
 
       met : (x : ℕ) → (k : ℕ) × (k < holders m f) × (onward m f k ≡ x) → (k : ℕ) × (k < holders n f) × (onward n f k ≡ x)
       met x w = (w .0, rw as-many (w .1), onward-same (w .0) (omega (arith, w .1)) ∙ w .2)
 
       back : (k : ℕ) → k < holders m f → previous n (next n (onward n f k)) ≡ onward n f k
       back k l =
-          ap (previous n) (at 2 k l) ∙ s .keeps (next m (onward m f k)) 3 (step-holds m f r k l) ∙ r .runs-back k l ∙ sym (onward-same k (omega arith))
+          ap (previous n) (after k l) ∙ s .previouses (next m (onward m f k)) (step-holds m f r k l) ∙ r .runs-back k l ∙ sym (onward-same k (omega arith))
+
+-- ---- a ring that stays is kept
+
+stays-kept : (m n : Mesh) (f : ℕ) → RingStays m n f → RingKept m n f
+stays-kept m n f s =
+    record {
+      first = s .first;
+      rows = s .rows;
+      still-hold = λ x h. record { exists = subst (λ (z : ℕ). T (not (eqb z 0))) (sym (s .keeps x 0 h)) (h .exists); its-face = s .keeps x 4 h ∙ h .its-face };
+      no-more = s .no-more;
+      sources = λ x h. s .keeps x 0 h;
+      nexts = λ x h. s .keeps x 2 h;
+      previouses = λ x h. s .keeps x 3 h;
+    }
+
+pub ring-stays : (m n : Mesh) (f : ℕ) → RingStays m n f → RingFacts m f → RingFacts n f
+ring-stays m n f s = ring-kept m n f (stays-kept m n f s)
 
 -- ---- rings that stay, one edit after another
 

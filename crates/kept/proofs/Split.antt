@@ -13,7 +13,7 @@ use Rattle.rules.specs.declared.Answer.{Answer}
 use Rattle.rules.specs.declared.Answer.the-variants.{Done, Refused}
 use Rattle.rules.specs.declared.Refusal.the-variants.{TopologyNotFound, TopologyMalformed, TopologyConflict}
 use Rattle.rules.specs.declared.Edit.the-variants.{FaceSplit}
-use Rattle.rules.specs.Table.{firstRow}
+use Rattle.rules.specs.Table.{firstRow, has}
 use Rattle.rules.specs.Mesh.{Mesh, Room, findArc, findVertex, findFace}
 use Rattle.rules.specs.Link.{ringVertices}
 use Rattle.rules.specs.Step.{Step, told, accepted}
@@ -33,22 +33,24 @@ use Rattle.kept.specs.Perimeter.{Perimeter, corner, following, ListsLeav
 use Rattle.kept.specs.Reaches.{KeepsEnds, Spared, SameRing}
 use Rattle.kept.specs.Makers.{Makers, LikeRules, putFaceBy, splitWorkBy}
 use Rattle.kept.specs.Suffices.{Tally, Within}
+use Rattle.kept.specs.Local.{FacesSince}
 use Rattle.kept.proofs.Base.{but-rings}
 use Rattle.kept.proofs.Counted.{met}
 use Rattle.kept.proofs.Find.{Between, find-back, arc-back, arc-some}
 use Rattle.kept.proofs.Spared.{spared-onto, same-ring}
-use Rattle.kept.proofs.Remove.{remove-kept, remove-spares, remove-ends}
+use Rattle.kept.proofs.Remove.{remove-kept, remove-spares, remove-ends, remove-was}
 use Rattle.kept.proofs.Lists.{lists-leave}
 use Rattle.kept.proofs.Passed.{Passed, passed, places-apart}
 use Rattle.kept.proofs.Reaches.{NotOn, not-on}
-use Rattle.kept.proofs.Halves.{vertices-length, half-vertex, half-end, half-start, half-need}
+use Rattle.kept.proofs.Halves.{vertices-length, half-vertex, half-on, half-end, half-start, half-need}
 use Rattle.kept.proofs.Stretch.{stretch-ends}
 use Rattle.kept.proofs.Keeps.{keeps-none, keeps-onto, back-there}
 use Rattle.kept.proofs.Eight.{answer-zero, checked-through}
 use Rattle.kept.proofs.Makers.{put-face-by}
 use Rattle.kept.proofs.Tallies.{tally-onto, left-met, tally-remove}
-use Rattle.kept.proofs.Along.{along-checked}
+use Rattle.kept.proofs.Along.{along-start, along-checked}
 use Rattle.kept.proofs.Put.{Put, put-in}
+use Rattle.kept.proofs.Local.{removed-local, since-none, since-onto, since-put, remove-since, Left, Reaching, put-left, put-since}
 use Rattle.kept.proofs.WithinNeed.{Made, step-made}
 
 -- ---- places
@@ -108,6 +110,10 @@ module _ (m : Mesh) (s : SoundFacts m) (k : ThreeCounters m) (f a b : ℕ) (u : 
 
   tally₁ : Tally m m₁ 0 0 0 1
   tally₁ = tally-remove m s f u
+
+  -- the ring's vertices, among which both halves are
+  abbrev near : ℕ → Type 0
+  near v = T (has vs v)
 
   -- a half that passes the checks is a perimeter
   half-perimeter : (n : Mesh) → KeepsEnds m n → (x y : ℕ) (xl : x < length vs) (yl : y < length vs) → Passed m₁ (stretch vs x y) (stretch vs x y) → Perimeter n (stretch vs x y)
@@ -235,6 +241,34 @@ module _ (m : Mesh) (s : SoundFacts m) (k : ThreeCounters m) (f a b : ℕ) (u : 
 
       pub split-spares : Spared m m₃ g
       split-spares = spared-onto first (spared-onto second (put₂ .spares g (face-in m₂ (spared-onto first second)) off-right))
+
+    -- ---- how far it reaches
+
+    -- both halves are of the ring's vertices
+    both-left : Left near m m₃
+    both-left =
+        let t = but-rings m s in
+        let first : Left near m m₂ = put-left t (removed-local m s f u) put₁ (λ v q h. half-on m s f u i j il jl v h) in
+        put-left t (first .1) put₂ (λ v q h. half-on m s f u j i jl il v h)
+
+    -- both halves have come; of what was there before, the removed face is not, and the others are spared
+    both-since : FacesSince m m₃
+    both-since =
+        let first : FacesSince m₁ m₂ = put-since (since-none m₁) (omega arith) (ql .no-conflict) put₁ in
+        let second : FacesSince m₁ m₃ = since-put first (omega (arith, put₁ .tally .face-keys)) put₂ (λ g q v. let was = remove-was m s f u g q in put₂ .spares g v (off-right g (was .1) (was .0))) in
+        since-onto (remove-since m s f u) (omega (arith, tally₁ .face-keys)) (keeps-onto (put₁ .keeps) (put₂ .keeps)) second
+
+  -- a split works among the ring's vertices
+  pub split-reaching : Reaching near m (splitWork m f a b) (splitWork m f a b)
+  unfolding splitWork half
+  split-reaching =
+      let only : Left near m m₁ = (b₁, removed-local m s f u) in
+      along-checked m₁ (insertChecks m₁ left left) _ _ only
+      (λ h. along-checked m₁ (insertChecks m₁ right right) _ _ only
+      (λ h′.
+      let ql = passed m₁ left left h in
+      let qr = passed m₁ right right h′ in
+      along-start (m₃ ql qr) (m₃ ql qr) _ (both-since ql qr) (both-left ql qr) refl))
 
   -- the need of a split suffices
   pub split-made : (by : Makers) → LikeRules by → Made m (splitNeed m a b) 1 (splitWork m f a b) (splitWorkBy by m f a b)

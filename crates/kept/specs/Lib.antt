@@ -4,5 +4,6 @@ pub mod Perimeter
 pub mod Reaches
 pub mod Makers
 pub mod Suffices
+pub mod Local
 pub mod Exactly
 pub mod Counters

@@ -119,9 +119,10 @@ abbrev pub ListsLeave : Mesh → List ℕ → List (List ℕ) → Type 0
 ListsLeave m per lists = (i : ℕ) → i < length per → (y : ℕ) → T (has (getD lists i []) y) → IsArc m y × (source m y ≡ corner per i)
 
 -- what the exterior leaves of the arcs t₀: they stay linked; next of an arc changes only if the arc has no face or comes to lead to an arc
--- without one, and previous likewise
+-- without one, and previous likewise; an arc with neither end on the perimeter keeps its row
 pub record Reached (m : Mesh) (per : List ℕ) (t₀ t : Table) : Type 0 where
   pub out : Outside m per t₀ t
   pub linked : Linked m t
   pub next-either : (y : ℕ) → (cell t y 2 ≡ cell t₀ y 2) ⊎ ((cell t₀ y 4 ≡ 0) ⊎ (cell t₀ (cell t y 2) 4 ≡ 0))
   pub previous-either : (y : ℕ) → (cell t y 3 ≡ cell t₀ y 3) ⊎ ((cell t₀ y 4 ≡ 0) ⊎ (cell t₀ (cell t y 3) 4 ≡ 0))
+  pub away : (y c : ℕ) → (T (has per (source m y)) → ⊥) → (T (has per (dest m y)) → ⊥) → cell t y c ≡ cell t₀ y c
