@@ -57,6 +57,11 @@ has-second (y ∷ ys) k x h = or-r (eqb x y) (has (ys ++ k) x) (has-second ys k 
 pub local-none : {near : ℕ → Type 0} (m : Mesh) → Local near m m
 local-none m = record { keeps = keeps-none m; edge-stays = λ x u. refl; edges-stay = λ e c u. refl; new-edge = λ x u n e. n u; away = λ x c u p q. refl }
 
+-- among more vertices
+pub local-wider : {P Q : ℕ → Type 0} {m n : Mesh} → Local P m n → ((v : ℕ) → P v → Q v) → Local Q m n
+local-wider {m = m} w h =
+    record { keeps = w .keeps; edge-stays = w .edge-stays; edges-stay = w .edges-stay; new-edge = w .new-edge; away = λ x c u f g. w .away x c u (λ q. f (h (source m x) q)) (λ q. g (h (dest m x) q)) }
+
 -- one part after another, where of the vertices that were there at first those near either are near the whole
 pub local-onto : {P Q R : ℕ → Type 0} {m a n : Mesh} → AllButRings m → Local P m a → Local Q a n → ((v : ℕ) → IsVertex m v → P v → R v) → ((v : ℕ) → IsVertex m v → Q v → R v) → Local R m n
 local-onto {P} {Q} {R} {m} {a} {n} s p q first second =

@@ -50,30 +50,6 @@ pub decided-is : (m : Mesh) (e : Edit) (keys : List ℕ) → decided m e keys �
 unfolding decided beforeWork
 decided-is m e keys = order (given e keys) (accepted (checks m e keys)) (movesFinite m e) (roomFor m (need m e keys)) (checks m e keys) m (worked (work m e keys)) refl
 
--- the copy in room: each of its tables over one as long
-pub copied-in : (s d : Mesh) (v a e f : Table) → SameSize s d → v ≡ over (s .vertices) (d .vertices) → a ≡ over (s .arcs) (d .arcs) → e ≡ over (s .edges) (d .edges) → f ≡ over (s .faces) (d .faces) → mesh v [] a e f [] ≡ mesh (s .vertices) [] (s .arcs) (s .edges) (s .faces) []
-copied-in s d v a e f z hv ha he hf i =
-    mesh ((hv ∙ over-same (s .vertices) (d .vertices) (z .vertices)) i) [] ((ha ∙ over-same (s .arcs) (d .arcs) (z .arcs)) i) ((he ∙ over-same (s .edges) (d .edges) (z .edges)) i) ((hf ∙ over-same (s .faces) (d .faces) (z .faces)) i) []
-
--- the work in room: n is the copy, s what the work left in it, l what was settled
-pub in-room : (m n : Mesh) (e : Edit) (keys : List ℕ) (s : Step) (l : Left) → n ≡ m → s ≡ work n e keys → l ≡ T.over m (worked s) → l ≡ T.over m (worked (work m e keys))
-in-room m n e keys s l en es el = el ∙ ap (λ (t : Step). T.over m (worked t)) (es ∙ ap (λ (t : Mesh). work t e keys) en)
-
--- what was settled over n, a mesh with other positions: r is the answer, x the mesh that is left
-module _ (m n : Mesh) (s : Step) (r : Answer) (x : Mesh) (e : left r x ≡ T.over n s) where
-  answered : r ≡ s .answer
-  unfolding T.over
-  answered = ap (λ (l : Left). l .answer) e
-
-  pub settled : accepted r ≡ true → left r x ≡ T.over m s
-  settled a = let b = ap accepted (sym answered) ∙ a in e ∙ sym (over-accepted n s b) ∙ over-accepted m s b
-
-  pub as-they-stood : accepted r ≡ false → x ≡ n
-  as-they-stood a = ap (λ (l : Left). l .mesh) (e ∙ sym (over-refused n s (ap accepted (sym answered) ∙ a)))
-
-  pub refused : accepted r ≡ false → (y : Mesh) → y ≡ m → left r y ≡ T.over m s
-  refused a y ey = (λ i. left (answered i) (ey i)) ∙ over-refused m s (ap accepted (sym answered) ∙ a)
-
 -- behind what is decided first, the work is what is decided
 pub performed : (m : Mesh) (e : Edit) (keys : List ℕ) (l : Left) → accepted (beforeWork m e keys) ≡ true → l ≡ T.over m (worked (work m e keys)) → l ≡ T.over m (decided m e keys)
 performed m e keys l a el = el ∙ ap (T.over m) (sym (decided-is m e keys ∙ rw a))

@@ -38,7 +38,7 @@ passed true true true false x q e = absurd (false≢true (rw q at e))
 passed true true true true x q e = (tt, tt, tt, tt)
 
 module _ (m : Mesh) (e : Edit) (keys : List ℕ) (k : ThreeCounters m) (s : sound m ≡ true) (a : accepted (beforeWork m e keys) ≡ true) where
-  behind : Behind m e keys
+  pub behind : Behind m e keys
   unfolding beforeWork
   behind =
       let p = passed (given e keys) (accepted (checks m e keys)) (movesFinite m e) (roomFor m (need m e keys)) (checks m e keys) refl a in

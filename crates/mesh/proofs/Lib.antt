@@ -1,3 +1,4 @@
 pub mod Calling
 pub mod Keeping
 pub mod PutBack
+pub mod InPlace

@@ -3,9 +3,13 @@
 // untouched."
 
 use crate::places;
+use nearby::rows;
+use nearby::rows::LISTED;
+use order::back;
 use order::decide;
 use order::rooms;
 use order::settle;
+use pairs::MARKS;
 use rules::Answer;
 use rules::ArcRow;
 use rules::Call;
@@ -16,40 +20,126 @@ use rules::PositionRow;
 use rules::Refusal;
 use rules::VertexRow;
 use tables::answers;
-use tables::sets;
 ghost use mathlib.Core.Path.{_≡_};
-ghost use mathlib.Core.List.{[]};
+ghost use mathlib.Core.List.{List, []};
 ghost use lib.ListN.{length};
+ghost use lib.Ieee.{Float};
+ghost use Rattle.rules.specs.Table.{Table};
 ghost use Rattle.rules.specs.Mesh.{mesh, room};
 ghost use mathlib.Core.Bool.{true};
 ghost use Prim.Native.Nat.{ℕ, _≤_};
 ghost use Rattle.rules.specs.declared.Edit.the-variants.{FaceInsert};
 ghost use Rattle.rules.specs.Sound.{sound};
 ghost use Rattle.rules.specs.Call.{work, worked, decided, called, outcome};
+ghost use Rattle.edits.specs.Places.{Kept};
+ghost use Rattle.nearby.specs.Rows.{Undoable};
 ghost use Rattle.order.specs.Transaction.{left, over, SameSize, Fits};
+ghost use Rattle.mesh.specs.Places.{Blank};
+ghost use Rattle.mesh.specs.Near.{NearListed, Begun};
 
-// The vertices, arcs, edges and faces copied into room that is as long. Positions are not copied: an edit works on them in place.
-fn copy_in(
-    v: &mut [VertexRow],
-    a: &mut [ArcRow],
-    e: &mut [EdgeRow],
-    f: &mut [FaceRow],
+// The arcs near an edit, listed: how many links. A face insert has at most 64 keys.
+fn list_near(
+    list: &mut [u32; LISTED],
     vertices: &[VertexRow],
     arcs: &[ArcRow],
     edges: &[EdgeRow],
     faces: &[FaceRow],
-)
-    requires { ⌜ SameSize (mesh (now vertices) [] (now arcs) (now edges) (now faces) []) (mesh (now v) [] (now a) (now e) (now f) []) ⌝ }
-    ensures { λ _. ⌜ mesh (now (v .exit)) [] (now (a .exit)) (now (e .exit)) (now (f .exit)) [] ≡ mesh (now (vertices .entry)) [] (now (arcs .entry)) (now (edges .entry)) (now (faces .entry)) [] ⌝ }
+    edit: Edit,
+    keys: &[u32],
+) -> usize
+    requires { ⌜ ((mark : ℕ) → edit ≡ FaceInsert mark → length (now keys) ≤ 64) ⌝ }
+    ensures { λ r. ⌜ ((p : List (List Float)) (k : List ℕ) → NearListed (mesh (now (vertices .entry)) p (now (arcs .entry)) (now (edges .entry)) (now (faces .entry)) k) edit (now (keys .entry)) (now (list .exit)) r) ⌝ }
 {
-    sets::copy2(v, vertices);
-    sets::copy6(a, arcs);
-    sets::copy3(e, edges);
-    sets::copy3(f, faces);
+    let mut seen = [false; MARKS];
+    nearby::vertices::mark_edit(&mut seen, vertices, arcs, faces, edit, keys);
+    rows::list_rows(list, arcs, edges, &seen)
 }
 
-// The edit in room that is as long as the mesh, and what is settled. Where it is refused, the positions are put back.
-fn work_in_room(
+// The mesh as it was, where an edit in place is refused: its tables out of the room where they were kept, and the positions by the vertices.
+fn put_back(
+    vertices: &mut [VertexRow],
+    positions: &mut [PositionRow],
+    arcs: &mut [ArcRow],
+    edges: &mut [EdgeRow],
+    faces: &mut [FaceRow],
+    v: &[VertexRow],
+    a: &[ArcRow],
+    e: &[EdgeRow],
+    f: &[FaceRow],
+    list: &[u32; LISTED],
+    n: usize,
+)
+    requires { ⌜ SameSize (mesh (now vertices) [] (now arcs) (now edges) (now faces) []) (mesh (now v) [] (now a) (now e) (now f) []) × (length (now vertices) ≡ length (now positions)) ⌝ }
+    ensures { λ _. ⌜ ((o : Table) (p : List (List Float)) → Undoable o (now (arcs .entry)) (now (a .entry)) (now (list .entry)) n (now (edges .entry)) (now (e .entry)) → Kept (now (v .entry)) p (now (positions .entry)) → Blank (now (v .entry)) p → mesh (now (vertices .exit)) (now (positions .exit)) (now (arcs .exit)) (now (edges .exit)) (now (faces .exit)) [] ≡ mesh (now (v .entry)) p o (now (e .entry)) (now (f .entry)) []) ⌝ }
+{
+    back::put_back(vertices, arcs, edges, faces, v, a, e, f, list, n);
+    places::put_back(vertices, positions);
+}
+
+// The edit in place, near which n arcs are listed, and what is settled. What it may change is kept in room that is as long as the mesh.
+fn work_listed(
+    vertices: &mut [VertexRow],
+    positions: &mut [PositionRow],
+    arcs: &mut [ArcRow],
+    edges: &mut [EdgeRow],
+    faces: &mut [FaceRow],
+    counters: &mut [u32; 3],
+    v: &mut [VertexRow],
+    a: &mut [ArcRow],
+    e: &mut [EdgeRow],
+    f: &mut [FaceRow],
+    past: &mut [ArcRow],
+    pastedges: &mut [EdgeRow],
+    list: &[u32; LISTED],
+    n: usize,
+    edit: Edit,
+    keys: &[u32],
+) -> Answer
+    requires { ⌜ Begun (mesh (now vertices) (now positions) (now arcs) (now edges) (now faces) (now counters)) edit (now keys) ⌝ }
+    requires { ⌜ SameSize (mesh (now vertices) [] (now arcs) (now edges) (now faces) []) (mesh (now v) [] (now a) (now e) (now f) []) ⌝ }
+    requires { ⌜ (length (now past) ≡ length (now arcs)) × (length (now pastedges) ≡ length (now edges)) ⌝ }
+    requires { ⌜ NearListed (mesh (now vertices) (now positions) (now arcs) (now edges) (now faces) (now counters)) edit (now keys) (now list) n ⌝ }
+    ensures { λ r. ⌜ left r (mesh (now (vertices .exit)) (now (positions .exit)) (now (arcs .exit)) (now (edges .exit)) (now (faces .exit)) (now (counters .exit))) ≡ over (mesh (now (vertices .entry)) (now (positions .entry)) (now (arcs .entry)) (now (edges .entry)) (now (faces .entry)) (now (counters .entry))) (worked (work (mesh (now (vertices .entry)) (now (positions .entry)) (now (arcs .entry)) (now (edges .entry)) (now (faces .entry)) (now (counters .entry))) edit (now (keys .entry)))) ⌝ }
+{
+    places::known_exact(positions);
+    rows::known_rows(arcs);
+    back::keep(v, a, e, f, vertices, arcs, edges, faces, list, n);
+    let k = *counters;
+    let told = choice::work(
+        vertices,
+        positions,
+        arcs,
+        edges,
+        faces,
+        counters,
+        past,
+        pastedges,
+        edit,
+        keys,
+    );
+    rows::known_rows(arcs);
+    let answer = settle::judged(
+        vertices,
+        positions,
+        arcs,
+        edges,
+        faces,
+        counters,
+        list,
+        n,
+        k[2],
+        told,
+    );
+    if answers::accepted(answer) {
+        return answer;
+    }
+    put_back(vertices, positions, arcs, edges, faces, v, a, e, f, list, n);
+    *counters = k;
+    answer
+}
+
+// The same, with the arcs near the edit listed.
+fn work_in_place(
     vertices: &mut [VertexRow],
     positions: &mut [PositionRow],
     arcs: &mut [ArcRow],
@@ -65,17 +155,14 @@ fn work_in_room(
     edit: Edit,
     keys: &[u32],
 ) -> Answer
-    requires { ⌜ sound (mesh (now vertices) (now positions) (now arcs) (now edges) (now faces) (now counters)) ≡ true ⌝ }
+    requires { ⌜ Begun (mesh (now vertices) (now positions) (now arcs) (now edges) (now faces) (now counters)) edit (now keys) ⌝ }
     requires { ⌜ SameSize (mesh (now vertices) [] (now arcs) (now edges) (now faces) []) (mesh (now v) [] (now a) (now e) (now f) []) ⌝ }
     requires { ⌜ (length (now past) ≡ length (now arcs)) × (length (now pastedges) ≡ length (now edges)) ⌝ }
-    requires { ⌜ ((mark : ℕ) → edit ≡ FaceInsert mark → length (now keys) ≤ 64) ⌝ }
     ensures { λ r. ⌜ left r (mesh (now (vertices .exit)) (now (positions .exit)) (now (arcs .exit)) (now (edges .exit)) (now (faces .exit)) (now (counters .exit))) ≡ over (mesh (now (vertices .entry)) (now (positions .entry)) (now (arcs .entry)) (now (edges .entry)) (now (faces .entry)) (now (counters .entry))) (worked (work (mesh (now (vertices .entry)) (now (positions .entry)) (now (arcs .entry)) (now (edges .entry)) (now (faces .entry)) (now (counters .entry))) edit (now (keys .entry)))) ⌝ }
 {
-    places::known_exact(positions);
-    copy_in(v, a, e, f, vertices, arcs, edges, faces);
-    let mut k = *counters;
-    let told = choice::work(v, positions, a, e, f, &mut k, past, pastedges, edit, keys);
-    let answer = settle::settle(
+    let mut list = [0u32; LISTED];
+    let n = list_near(&mut list, vertices, arcs, edges, faces, edit, keys);
+    work_listed(
         vertices,
         positions,
         arcs,
@@ -86,14 +173,13 @@ fn work_in_room(
         a,
         e,
         f,
-        k,
-        told,
-    );
-    if answers::accepted(answer) {
-        return answer;
-    }
-    places::put_back(vertices, positions);
-    answer
+        past,
+        pastedges,
+        &list,
+        n,
+        edit,
+        keys,
+    )
 }
 
 // Says only that there are three.
@@ -101,7 +187,7 @@ fn known_three(counters: [u32; 3])
     ensures { λ _. ⌜ length counters ≡ 3 ⌝ }
 {}
 
-// The edit on a sound mesh: what is decided before it, then the work. Where the work may be refused it is done in room.
+// The edit on a sound mesh: what is decided before it, then the work. Where the work may be refused, what it may change is kept.
 fn perform(
     vertices: &mut [VertexRow],
     positions: &mut [PositionRow],
@@ -151,7 +237,7 @@ fn perform(
             keys,
         );
     }
-    work_in_room(
+    work_in_place(
         vertices,
         positions,
         arcs,

@@ -1,40 +1,14 @@
--- What settling comes to, over plain values: tables copied over others of their sizes, and a step over the mesh.
+-- What settling comes to, over plain values: a step over the mesh, and what is answered when the work is done.
 use mathlib.Core.Path.{_≡_, refl, ap, sym, _∙_}
-use mathlib.Core.Bool.{Bool, true, false, not, _&&_, cond, false≢true}
-use lib.Dec.{leb}
-use borrow.Author.Tests.{leb-true}
-use mathlib.Core.List.{List, [], _∷_, _++_}
-use lib.ListN.{length, take, drop, replicate, length-append, length-take, length-drop}
-use lib.Ieee.{Float}
-use Prim.Native.Nat.{ℕ, _-_, _≤_}
-use native.Mathlib.Omega.{arith}
+use mathlib.Core.Bool.{Bool, true, false, cond}
 use Rattle.rules.specs.declared.Answer.{Answer}
-use Rattle.rules.specs.declared.Edit.{Edit}
-use Rattle.rules.specs.Table.{Table}
-use Rattle.rules.specs.Mesh.{Mesh, mesh, Room, room}
+use Rattle.rules.specs.Mesh.{Mesh}
 use Rattle.rules.specs.Step.{Step, step, stops, accepted}
-use Rattle.rules.specs.Call.{kept, zeroed, outcome, roomEnough, given, checks, movesFinite, roomFor, need, work, worked, lastStep, decided, ready, called}
+use Rattle.rules.specs.Call.{kept, worked, lastStep}
 use Rattle.rules.specs.Sound.{sound}
-use Rattle.rules.specs.Point.{zeroFloat}
-use Rattle.rules.specs.declared.Answer.the-variants.{Done, Refused}
-use Rattle.rules.specs.declared.Refusal.the-variants.{Tables, Argument, NoRoom, WouldBreak}
-use Rattle.rules.specs.declared.Call.{Call}
-use Rattle.tables.specs.Sets.{over}
-use Rattle.tables.proofs.Lists.{over-same}
-use Rattle.rules.specs.declared.Edit.the-variants.{FaceInsert}
-use Rattle.checks.proofs.Pairs.{given-few}
-use Rattle.order.proofs.Deciding.{not-given}
+use Rattle.rules.specs.declared.Refusal.the-variants.{WouldBreak}
 use Rattle.order.specs.Transaction as T
-use Rattle.order.specs.Transaction.{Left, left, SameSize, Fits, beforeWork}
-
--- a set of tables with counters
-abbrev pub meshOf : Room → List ℕ → Mesh
-meshOf r k = mesh (r .vertices) (r .positions) (r .arcs) (r .edges) (r .faces) k
-
--- a set copied over one of its sizes, but for the positions, where the arcs and the edges are already those of the set
-pub copied-back : (s d : Mesh) (v a e f : Table) → SameSize d s → v ≡ over (s .vertices) (d .vertices) → a ≡ s .arcs → e ≡ s .edges → f ≡ over (s .faces) (d .faces) → (ps : List (List Float)) → room v ps a e f ≡ room (s .vertices) ps (s .arcs) (s .edges) (s .faces)
-copied-back s d v a e f z hv ha he hf ps i =
-    room ((hv ∙ over-same (s .vertices) (d .vertices) (sym (z .vertices))) i) ps (ha i) (he i) ((hf ∙ over-same (s .faces) (d .faces) (sym (z .faces))) i)
+use Rattle.order.specs.Transaction.{left}
 
 -- a refused step leaves the mesh, an accepted one its own tables
 pub over-refused : (m : Mesh) (s : Step) → accepted (s .answer) ≡ false → left (s .answer) m ≡ T.over m s

@@ -1,18 +1,19 @@
--- A call in the pieces in which the code goes through it: what is decided before the first change, the work in room one, and what is
--- settled at the end.
+-- A call in the pieces in which the code goes through it: what is decided before the first change, what is kept of the mesh, and what is settled
+-- after the work.
 use mathlib.Core.Path.{_≡_}
 use mathlib.Core.Bool.{Bool, true, false, not, cond}
 use mathlib.Core.List.{List}
-use Prim.Native.Nat.{ℕ, _≤_}
-use lib.ListN.{length}
+use Prim.Native.Nat.{ℕ, _≤_, _<_}
+use lib.ListN.{length, take}
 use Rattle.rules.specs.declared.Answer.{Answer}
 use Rattle.rules.specs.declared.Answer.the-variants.{Done, Refused}
 use Rattle.rules.specs.declared.Refusal.the-variants.{Argument, NoRoom}
-use Rattle.rules.specs.Table.{Table}
+use Rattle.rules.specs.Table.{Table, has}
 use Rattle.rules.specs.declared.Edit.{Edit}
 use Rattle.rules.specs.declared.Edit.the-variants.{VertexInsert, FaceInsert, FaceRemove, FaceSplit, FacePoke, FaceBridge, FaceExtrude, ArcBridge, ArcExtrude}
 use Rattle.rules.specs.Mesh.{Mesh, Room}
 use Rattle.rules.specs.Step.{Step, accepted}
+use Rattle.nearby.specs.Rows.{Right}
 use Rattle.rules.specs.Call.{kept, given, checks, movesFinite, roomFor, need}
 
 -- what is answered and which mesh is left
@@ -34,6 +35,14 @@ pub record SameSize (m n : Mesh) : Type 0 where
   pub arcs : length (m .arcs) ≡ length (n .arcs)
   pub edges : length (m .edges) ≡ length (n .edges)
   pub faces : length (m .faces) ≡ length (n .faces)
+
+-- the tables of m kept in r: vertices, edges and faces, and of the arcs the n rows that are listed, or all where there are too many to list
+pub record KeptIn (m r : Mesh) (list : List ℕ) (n : ℕ) : Type 0 where
+  pub vertices : r .vertices ≡ m .vertices
+  pub edges : r .edges ≡ m .edges
+  pub faces : r .faces ≡ m .faces
+  pub all-arcs : 2048 < n → r .arcs ≡ m .arcs
+  pub listed-arcs : n ≤ 2048 → (x : ℕ) → has (take n list) x ≡ true → Right (m .arcs) (r .arcs) x
 
 -- what is decided before the first change: 2 for what the caller gave, the Rust's checks, 2 for moved coordinates, 7; or done
 unfoldable pub beforeWork : Mesh → Edit → List ℕ → Answer

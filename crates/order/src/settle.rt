@@ -1,8 +1,8 @@
-// What is settled when the work is done in room: a refusal in mid-edit, 8 if the result would not be sound, else the room is copied over the
-// mesh and the counters are set. Document 01: "work in lent room, copied over only when accepted", "Every refusal .. changes no mesh table and
-// no counter." The positions are not copied, since an edit works on them in place; where it is refused, the caller puts them back.
+// What is settled when the work is done: a refusal in mid-edit, 8 if the result is not sound, else what the work told. Document 01: "the Rust's refusals in
+// mid-edit; 8".
 
-use crate::back;
+use nearby::rings;
+use nearby::rows::LISTED;
 use rules::Answer;
 use rules::ArcRow;
 use rules::EdgeRow;
@@ -11,16 +11,17 @@ use rules::FaceRow;
 use rules::PositionRow;
 use rules::Refusal;
 use rules::VertexRow;
-use since::changes::CHANGED;
-use since::changes::TOO_MANY;
 use tables::answers;
 ghost use mathlib.Core.Path.{_≡_};
+ghost use mathlib.Core.Bool.{true};
+ghost use Prim.Native.Nat.{_≤_};
+ghost use lib.ListN.{length, take};
 ghost use Rattle.rules.specs.Mesh.{mesh};
-ghost use Rattle.rules.specs.Step.{step};
+ghost use Rattle.rules.specs.Step.{step, accepted};
+ghost use Rattle.rules.specs.Sound.{sound};
 ghost use Rattle.rules.specs.Call.{worked};
-ghost use Rattle.since.specs.Changes.{Listed};
-ghost use Rattle.since.specs.Were.{WereSound};
-ghost use Rattle.order.specs.Transaction.{left, over, SameSize, keepsSound};
+ghost use Rattle.nearby.specs.Rings.{ringsHold};
+ghost use Rattle.order.specs.Transaction.{keepsSound};
 
 // Whether an edit is one that refuses nothing in mid-edit and always leaves a sound mesh, so that it needs no room and nothing is to be settled.
 pub fn keeps_sound(edit: Edit) -> bool
@@ -39,125 +40,59 @@ pub fn keeps_sound(edit: Edit) -> bool
     }
 }
 
-// What the work comes to, and how many rows of the arcs and of the edges are listed, all that have changed; or that a list says nothing.
-struct Verdict {
-    answer: Answer,
-    arcs: usize,
-    edges: usize,
-}
-
-// What the work told, or 8 where the tables that it leaves are not sound. Those from v to k are as they were, and were sound with the positions
-// of then.
-fn judged(
-    changed_arcs: &mut [u32; CHANGED],
-    changed_edges: &mut [u32; CHANGED],
-    v: &[VertexRow],
-    a: &[ArcRow],
-    e: &[EdgeRow],
-    f: &[FaceRow],
-    k: &[u32; 3],
+// Whether the tables are sound, after an edit from which on n arcs near it are listed and the face counter was `from`. The rings near it tell where the list
+// does.
+fn sound_after(
     vertices: &[VertexRow],
     positions: &[PositionRow],
     arcs: &[ArcRow],
     edges: &[EdgeRow],
     faces: &[FaceRow],
     counters: &[u32; 3],
-    told: Answer,
-) -> Verdict
-    requires { ⌜ WereSound (now v) (now positions) (now a) (now e) (now f) (now k) ⌝ }
-    ensures { λ r. ⌜ (r .answer ≡ worked (step (mesh (now (vertices .entry)) (now (positions .entry)) (now (arcs .entry)) (now (edges .entry)) (now (faces .entry)) (now (counters .entry))) told) .answer) × Listed (now («changed_arcs» .exit)) (r .arcs) (now (a .entry)) (now (arcs .entry)) × Listed (now («changed_edges» .exit)) (r .edges) (now (e .entry)) (now (edges .entry)) ⌝ }
+    list: &[u32; LISTED],
+    n: usize,
+    from: u32,
+) -> bool
+    requires { ⌜ (n ≤ 2048 → (length (now faces) ≤ 4096) × (ringsHold (now arcs) (now faces) (take n (now list)) from ≡ sound (mesh (now vertices) (now positions) (now arcs) (now edges) (now faces) (now counters)))) ⌝ }
+    ensures { λ r. ⌜ r ≡ sound (mesh (now (vertices .entry)) (now (positions .entry)) (now (arcs .entry)) (now (edges .entry)) (now (faces .entry)) (now (counters .entry))) ⌝ }
 {
-    if !answers::accepted(told) {
-        return Verdict {
-            answer: told,
-            arcs: TOO_MANY,
-            edges: TOO_MANY,
-        };
+    if n > LISTED {
+        return sound::queries::is_sound(vertices, positions, arcs, edges, faces, counters);
     }
-    let now = since::sound_since(
-        changed_arcs,
-        changed_edges,
-        v,
-        a,
-        e,
-        f,
-        k,
-        vertices,
-        positions,
-        arcs,
-        edges,
-        faces,
-        counters,
-    );
-    if now.sound {
-        return Verdict {
-            answer: told,
-            arcs: now.arcs,
-            edges: now.edges,
-        };
-    }
-    Verdict {
-        answer: Answer::Refused(Refusal::WouldBreak),
-        arcs: TOO_MANY,
-        edges: TOO_MANY,
-    }
+    rings::rings_hold(arcs, faces, list, n, from)
 }
 
-// The mesh, and in room what the work has made of it; the positions are already the work's.
-pub fn settle(
-    vertices: &mut [VertexRow],
+// What the work told, or 8 where the tables that it leaves are not sound.
+pub fn judged(
+    vertices: &[VertexRow],
     positions: &[PositionRow],
-    arcs: &mut [ArcRow],
-    edges: &mut [EdgeRow],
-    faces: &mut [FaceRow],
-    counters: &mut [u32; 3],
-    v: &[VertexRow],
-    a: &[ArcRow],
-    e: &[EdgeRow],
-    f: &[FaceRow],
-    k: [u32; 3],
+    arcs: &[ArcRow],
+    edges: &[EdgeRow],
+    faces: &[FaceRow],
+    counters: &[u32; 3],
+    list: &[u32; LISTED],
+    n: usize,
+    from: u32,
     told: Answer,
 ) -> Answer
-    requires { ⌜ WereSound (now vertices) (now positions) (now arcs) (now edges) (now faces) (now counters) ⌝ }
-    requires { ⌜ SameSize (mesh (now vertices) (now positions) (now arcs) (now edges) (now faces) (now counters)) (mesh (now v) (now positions) (now a) (now e) (now f) k) ⌝ }
-    ensures { λ r. ⌜ left r (mesh (now (vertices .exit)) (now (positions .entry)) (now (arcs .exit)) (now (edges .exit)) (now (faces .exit)) (now (counters .exit))) ≡ over (mesh (now (vertices .entry)) (now (positions .entry)) (now (arcs .entry)) (now (edges .entry)) (now (faces .entry)) (now (counters .entry))) (worked (step (mesh (now (v .entry)) (now (positions .entry)) (now (a .entry)) (now (e .entry)) (now (f .entry)) k) told)) ⌝ }
+    requires { ⌜ (accepted told ≡ true → n ≤ 2048 → (length (now faces) ≤ 4096) × (ringsHold (now arcs) (now faces) (take n (now list)) from ≡ sound (mesh (now vertices) (now positions) (now arcs) (now edges) (now faces) (now counters)))) ⌝ }
+    ensures { λ r. ⌜ r ≡ worked (step (mesh (now (vertices .entry)) (now (positions .entry)) (now (arcs .entry)) (now (edges .entry)) (now (faces .entry)) (now (counters .entry))) told) .answer ⌝ }
 {
-    let mut changed_arcs = [0u32; CHANGED];
-    let mut changed_edges = [0u32; CHANGED];
-    let verdict = judged(
-        &mut changed_arcs,
-        &mut changed_edges,
+    if !answers::accepted(told) {
+        return told;
+    }
+    if sound_after(
         vertices,
+        positions,
         arcs,
         edges,
         faces,
         counters,
-        v,
-        positions,
-        a,
-        e,
-        f,
-        &k,
-        told,
-    );
-    let answer = verdict.answer;
-    if !answers::accepted(answer) {
-        return answer;
+        list,
+        n,
+        from,
+    ) {
+        return told;
     }
-    back::copy_back(
-        vertices,
-        arcs,
-        edges,
-        faces,
-        v,
-        a,
-        e,
-        f,
-        &changed_arcs,
-        verdict.arcs,
-        &changed_edges,
-        verdict.edges,
-    );
-    *counters = k;
-    answer
+    Answer::Refused(Refusal::WouldBreak)
 }

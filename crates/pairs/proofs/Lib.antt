@@ -3,7 +3,6 @@ pub mod Blocks
 pub mod Steps
 pub mod Listed
 pub mod Pass
-pub mod Led
 pub mod Chains
 pub mod Filled
 pub mod Has

@@ -68,7 +68,3 @@ metBefore per i k = someBelow (meets per (getD per k 0) (getD per (after (length
 -- it runs from s to d
 unfoldable pub runsAt : List ℕ → List ℕ → ℕ → ℕ → ℕ → Bool
 runsAt from to s d j = eqb s (getD from j 0) && eqb d (getD to j 0)
-
--- no arc leads along any of the first n
-abbrev pub NoneLed : Table → List ℕ → List ℕ → ℕ → Type 0
-NoneLed arcs from to n = (j : ℕ) → j < n → arcBetween arcs (getD from j 0) (getD to j 0) ≡ 0

@@ -2,8 +2,7 @@
 // It carries the lookups of document 01's rule 5: "perimeter pairs in order: an existing arc ..". Each of them alone is `rows::find_arc`.
 // And whether two pairs join the same vertices: an edge that is made for one pair is then another pair's too.
 
-pub mod joined; // joined.rt: that no arc leads along any of a list of pairs
-mod marked; // marked.rt: blocks of rows without a mark
+pub mod marked; // marked.rt: blocks of rows without a mark
 pub mod near; // near.rt: arcs near an edit, listed in one pass for all its perimeters
 
 use rules::ArcRow;

@@ -1,0 +1,71 @@
+use Rattle.rules.specs.Mesh.{mesh}
+use Rattle.mesh.proofs.Calling.{few-keys}
+use borrow.Author.Needs.{needs}
+use Rattle.mesh.proofs.call.work_in_place.Statement.{statement}
+use Rattle.mesh.proofs.call.work_in_place.Tie as tie
+
+list-near-requires : tie.Need-list-near-requires
+list-near-requires c κs =
+    let x = c .before .before .before .before .before .before .args in
+    few-keys (mesh (x .vertices .now) (x .positions .now) (x .arcs .now) (x .edges .now) (x .faces .now) (x .counters .now)) (x .edit) (x .keys .now) (c .before .before .before .before .before .before .pre .0 .passed)
+
+work-listed-requires : tie.Need-work-listed-requires
+work-listed-requires c κs =
+    let x = c .before .before .before .before .before .before .before .before .before .before .before .before .before .before .before .before .before .before .before .before .args in
+    let z = c .before .before .before .before .before .before .before .before .before .before .before .before .before .before .before .before .before .before .before .before .pre in
+    (z .0, (z .1 .0, (z .1 .1, c .before .before .before .before .before .before .before .before .before .before .before .before .before .list-near .ensures (x .positions .now) (x .counters .now))))
+
+same-length : tie.Need-same-length
+same-length c = search needs
+
+same-length-2 : tie.Need-same-length-2
+same-length-2 c = search needs
+
+same-length-3 : tie.Need-same-length-3
+same-length-3 c = search needs
+
+same-length-4 : tie.Need-same-length-4
+same-length-4 c = search needs
+
+same-length-5 : tie.Need-same-length-5
+same-length-5 c = search needs
+
+same-length-6 : tie.Need-same-length-6
+same-length-6 c = search needs
+
+same-length-7 : tie.Need-same-length-7
+same-length-7 c = search needs
+
+same-length-8 : tie.Need-same-length-8
+same-length-8 c = search needs
+
+same-length-9 : tie.Need-same-length-9
+same-length-9 c = search needs
+
+same-length-10 : tie.Need-same-length-10
+same-length-10 c = search needs
+
+same-length-11 : tie.Need-same-length-11
+same-length-11 c = search needs
+
+returns : tie.Need-returns
+returns c = search needs
+
+pub work-in-place-spec : {M : Type 1} → statement M
+work-in-place-spec =
+    tie.close
+    (tie.spec
+    list-near-requires
+    work-listed-requires
+    same-length
+    same-length-2
+    same-length-3
+    same-length-4
+    same-length-5
+    same-length-6
+    same-length-7
+    same-length-8
+    same-length-9
+    same-length-10
+    same-length-11
+    returns)

@@ -1,0 +1,32 @@
+-- `nearby::vertices::mark_keys` meets its contract. Assumes nothing.
+use Rattle.nearby.proofs.Marking.{marks-keys}
+use borrow.Author.Needs.{needs}
+use Rattle.nearby.proofs.vertices.mark_keys.Statement.{statement}
+use Rattle.nearby.proofs.vertices.mark_keys.Tie as tie
+
+known-marks-requires : tie.Need-known-marks-requires
+known-marks-requires c κs = search needs
+
+from-keys-requires : tie.Need-from-keys-requires
+from-keys-requires c κs = search needs
+
+vertices-by-keys-requires : tie.Need-vertices-by-keys-requires
+vertices-by-keys-requires c κs = search needs
+
+mark-requires : tie.Need-mark-requires
+mark-requires c κs = search needs
+
+returns : tie.Need-returns
+returns c = λ p a e f k.
+    let s = c .before .before .before .before .before .before .before .args in
+    marks-keys (s .seen .now) _ (s .vertices .now) p a e f k (s .keys .now) (c .before .before .before .from-keys .result) (c .before .vertices-by-keys .result) (search needs) (search needs) (c .before .before .before .from-keys .ensures) (c .before .vertices-by-keys .ensures) (c .mark .ensures)
+
+pub mark-keys-spec : {M : Type 1} → statement M
+mark-keys-spec =
+    tie.close
+    (tie.spec
+    known-marks-requires
+    from-keys-requires
+    vertices-by-keys-requires
+    mark-requires
+    returns)

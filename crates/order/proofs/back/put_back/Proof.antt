@@ -1,0 +1,54 @@
+use mathlib.Core.Path.{sym, _∙_}
+use mathlib.Core.List.{[]}
+use Rattle.rules.specs.Mesh.{mesh}
+use Rattle.tables.proofs.Lists.{over-same}
+use borrow.Author.Needs.{needs}
+use Rattle.order.proofs.back.put_back.Statement.{statement}
+use Rattle.order.proofs.back.put_back.Tie as tie
+
+put-back-requires : tie.Need-put-back-requires
+put-back-requires c κs = let z = c .before .before .pre in (z .arcs, z .edges)
+
+copy2-requires : tie.Need-copy2-requires
+copy2-requires c κs = search needs
+
+copy3-requires : tie.Need-copy3-requires
+copy3-requires c κs = search needs
+
+copy3-requires-2 : tie.Need-copy3-requires-2
+copy3-requires-2 c κs = search needs
+
+same-length : tie.Need-same-length
+same-length c = search needs
+
+same-length-2 : tie.Need-same-length-2
+same-length-2 c = search needs
+
+same-length-3 : tie.Need-same-length-3
+same-length-3 c = search needs
+
+same-length-4 : tie.Need-same-length-4
+same-length-4 c = search needs
+
+returns : tie.Need-returns
+returns c o h =
+    let x = c .before .before .before .before .before .before .before .before .before .before .before .before .before .args in
+    let z = c .before .before .before .before .before .before .before .before .before .before .before .before .before .pre in
+    let vs = c .before .before .before .before .before .before .before .copy2 .ensures ∙ over-same (x .v .now) (x .vertices .now) (sym (z .vertices)) in
+    let es = c .before .before .before .before .copy3 .ensures ∙ over-same (x .e .now) (x .edges .now) (sym (z .edges)) in
+    let fs = c .before .copy32 .ensures ∙ over-same (x .f .now) (x .faces .now) (sym (z .faces)) in
+    λ i. mesh (vs i) [] (c .before .before .before .before .before .before .before .before .before .before .put-back .ensures o h i) (es i) (fs i) []
+
+pub put-back-spec : {M : Type 1} → statement M
+put-back-spec =
+    tie.close
+    (tie.spec
+    put-back-requires
+    copy2-requires
+    copy3-requires
+    copy3-requires-2
+    same-length
+    same-length-2
+    same-length-3
+    same-length-4
+    returns)
