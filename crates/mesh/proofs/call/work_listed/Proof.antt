@@ -95,9 +95,10 @@ put-back-requires c κs =
     let z = c .before .before .before .before .before .before .before .before .before .before .before .before .before .before .before .before .before .before .before .before .before .before .before .before .before .before .before .before .before .before .before .before .before .before .before .before .before .before .before .before .before .before .before .before .before .before .before .before .before .before .before .before .before .before .before .pre in
     let s = z .1 .0 in
     let w = c .before .before .before .before .before .before .before .before .before .before .before .before .before .before .before .before .before .before .before .before .before .before .before .before .before .before .before .work .kept in
-    let k = c .before .before .before .before .before .before .before .before .before .before .before .before .before .before .before .before .before .before .before .before .before .before .before .before .before .before .before .before .before .before .before .before .before .before .before .before .before .before .before .before .before .keep .kept in
-    (record { vertices = w .0 ∙ s .vertices ∙ sym (k .0); positions = refl; arcs = w .1 .1 .0 ∙ s .arcs ∙ sym (k .1 .0); edges = w .1 .1 .1 .0 ∙ s .edges ∙ sym (k .1 .1 .0); faces = w .1 .1 .1 .1 .0 ∙ s .faces ∙ sym (k .1 .1 .1 .0) },
-    w .0 ∙ sym (as-many (mesh (x .vertices .now) (x .positions .now) (x .arcs .now) (x .edges .now) (x .faces .now) (x .counters .now)) (z .0 .whole)) ∙ sym (w .1 .0))
+    let k = c .before .before .before .before .before .before .before .before .before .before .before .before .before .before .before .before .before .before .before .before .before .before .before .before .before .before .before .before .before .before .before .before .before .before .before .before .before .before .before .before .before .keep .kept in (
+      record { vertices = w .0 ∙ s .vertices ∙ sym (k .0); positions = refl; arcs = w .1 .1 .0 ∙ s .arcs ∙ sym (k .1 .0); edges = w .1 .1 .1 .0 ∙ s .edges ∙ sym (k .1 .1 .0); faces = w .1 .1 .1 .1 .0 ∙ s .faces ∙ sym (k .1 .1 .1 .0) },
+      w .0 ∙ sym (as-many (mesh (x .vertices .now) (x .positions .now) (x .arcs .now) (x .edges .now) (x .faces .now) (x .counters .now)) (z .0 .whole)) ∙ sym (w .1 .0),
+    )
 
 same-length-12 : tie.Need-same-length-12
 same-length-12 c = c .before .before .before .before .before .put-back .kept .0 ∙ c .before .before .before .before .before .before .before .before .before .before .before .before .before .before .before .before .before .before .before .before .before .before .before .before .before .before .before .before .before .before .before .before .before .work .kept .0
