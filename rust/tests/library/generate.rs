@@ -443,21 +443,30 @@ pub fn filled(rng: &mut Rng, sizes: Sizes, free: Sizes, arities: &[usize]) -> Re
 
 /// A cloth of w by h faces of four vertices each.
 pub fn grid(w: u32, h: u32) -> Records {
-    let mut mesh = Records::default();
     let vertex = |x: u32, y: u32| y * (w + 1) + x;
-    for y in 0..=h {
-        for x in 0..=w {
-            let position = [f64::from(x), f64::from(y), 0.0].map(f64::to_bits);
-            mesh.vertices.insert(vertex(x, y), VertexRecord { position, leading: None });
-        }
+    let places = (0..=h).flat_map(|y| (0..=w).map(move |x| [f64::from(x), f64::from(y), 0.0]));
+    let faces = (0..h).flat_map(|y| (0..w).map(move |x| vec![vertex(x, y), vertex(x + 1, y), vertex(x + 1, y + 1), vertex(x, y + 1)]));
+    joined(places, faces)
+}
+
+/// Triangles round one vertex, beside one another, open at one place.
+pub fn fan(n: u32) -> Records {
+    joined((0..n + 2).map(|i| [f64::from(i), f64::from(i * i), 0.0]), (1..=n).map(|i| vec![0, i, i + 1]))
+}
+
+/// Faces that are joined along their edges, with a border that meets no vertex twice.
+fn joined(places: impl Iterator<Item = [f64; 3]>, faces: impl Iterator<Item = Vec<u32>>) -> Records {
+    let mut mesh = Records::default();
+    for (vertex, place) in places.enumerate() {
+        mesh.vertices.insert(vertex as u32, VertexRecord { position: place.map(f64::to_bits), leading: None });
     }
-    for (face, (x, y)) in (0..h).flat_map(|y| (0..w).map(move |x| (x, y))).enumerate() {
-        let corners = [vertex(x, y), vertex(x + 1, y), vertex(x + 1, y + 1), vertex(x, y + 1)];
-        let arc = |i: usize| (corners[i % 4], corners[(i + 1) % 4]);
+    for (face, corners) in faces.enumerate() {
+        let n = corners.len();
+        let arc = |i: usize| (corners[i % n], corners[(i + 1) % n]);
         for (i, corner) in corners.iter().enumerate() {
             let key = mesh.arcs.get(&opposite(arc(i))).map_or(mesh.edges.len() as u32, |record| record.edge);
             mesh.edges.entry(key).or_insert(arc(i));
-            let (next, previous) = (Some(arc(i + 1)), Some(arc(i + 3)));
+            let (next, previous) = (Some(arc(i + 1)), Some(arc(i + n - 1)));
             mesh.arcs.insert(arc(i), ArcRecord { next, previous, face: Some(face as u32), edge: key });
             mesh.vertices.get_mut(corner).unwrap().leading = Some(arc(i));
         }

@@ -4,7 +4,7 @@ use std::fs;
 
 use crate::case::Case;
 use crate::counts::Counts;
-use crate::generate::{self, disturb, filled, grid, Profile};
+use crate::generate::{self, disturb, fan, filled, grid, Profile};
 use crate::line::Line;
 use crate::records::{Records, Sizes};
 use crate::repeat;
@@ -96,6 +96,23 @@ fn at_the_limits() {
         case.grow(rng, &generate::FULL, 16);
         case.hold(counts);
     });
+}
+
+/// Round one vertex there are more arcs than the library lists near an edit, so that it keeps all arcs and tests all tables.
+#[test]
+fn with_more_arcs_near_than_are_listed() {
+    let counts = repeat("with more arcs near an edit than are listed", 0.1, |rng, counts| {
+        let mut case = case(rng, [1400, 3000, 1400]);
+        case.start = fan(1030 + rng.below(100) as u32);
+        if rng.chance(0.3) {
+            disturb(rng, &mut case.start);
+        }
+        case.scattered = rng.chance(0.5).then(|| rng.bits());
+        case.every_record = false;
+        case.grow(rng, &generate::FULL, 16);
+        case.hold(counts);
+    });
+    counts.must_have_met("a refusal after the first change", counts.with(8) + counts.noted("refused in mid-edit") > 0);
 }
 
 /// A sound mesh that no script need reach: a script's mesh with links, names, keys and counters changed, in scattered rows.

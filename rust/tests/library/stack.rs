@@ -31,8 +31,18 @@ fn every_call(mut mesh: Mesh) {
     mesh.check_sound().unwrap();
 }
 
+/// An edit at a vertex with more seams than the library lists near an edit: it tests all tables once more.
+fn edit_at_many_seams(mut mesh: Mesh) {
+    let rim: Vec<VertexKey> = (0..1032).map(|i| mesh.vertex_insert([f64::from(i), 0.0, 0.0]).unwrap()).collect();
+    let middle = mesh.vertex_insert([0.0; 3]).unwrap();
+    let panels: Vec<FaceKey> = rim.windows(2).map(|two| mesh.face_insert(1, &[middle, two[0], two[1]]).unwrap()).collect();
+    mesh.face_poke(panels[500], [1.0, 2.0, 3.0]).unwrap();
+}
+
 #[test]
 fn calls_fit_into_their_stack() {
-    let mesh = Mesh::new(4096, 8192, 4096).unwrap();
-    thread::Builder::new().stack_size(STACK).spawn(move || every_call(mesh)).unwrap().join().unwrap();
+    for calls in [every_call, edit_at_many_seams] {
+        let mesh = Mesh::new(4096, 8192, 4096).unwrap();
+        thread::Builder::new().stack_size(STACK).spawn(move || calls(mesh)).unwrap().join().unwrap();
+    }
 }
