@@ -17,12 +17,12 @@ use Rattle.rules.specs.Link.{ring}
 use Rattle.rules.specs.Sound.{unlessNone, faceExists, namesHolder, comesBack, threeToLimit, sourcesDiffer, ringHolds, holdersOnRing, runsBack, ringSound, ringsSound}
 use Rattle.rules.proofs.Scan.{every-passes}
 use Rattle.rules.proofs.Counts.{bit}
-use Rattle.rules.proofs.Sums.{or-l, or-r, or-cases, sum-ext, sum-zero, every-has, distinct-map, sum-list, count-sum}
+use Rattle.rules.proofs.Sums.{or-cases, sum-ext, sum-zero, every-has, distinct-map, sum-list, count-sum}
 use Rattle.proved.specs.Demand.{holds, holdsSome, Holds, holders, allHolders}
 use Rattle.proved.proofs.Rows.{T-true, T-false, true-T, differ-T, cell-row, there-row, link-row, so-if, in-table, used-at, used-all}
 use Rattle.proved.proofs.Ring.{ring-parts, ring-whole, row-holds, holds-row, ring-counts}
 use Rattle.proved.proofs.Totals.{sum-le, sum-swap, sum-hit-le, bit-le, count-by-face}
-use Rattle.sound.specs.Rings.{ringWhole, ringLength}
+use Rattle.sound.specs.Rings.{ringWhole}
 
 -- ---- one ring
 
@@ -64,20 +64,6 @@ pub whole-three : (m : Mesh) (f : ℕ) → T (ringWhole m f) → 3 ≤ length (r
 unfolding threeToLimit
 whole-three m f h = leb→le 3 (length (ring m f)) (and-l (leb 3 (length (ring m f))) _ (whole-parts m f h .three-to-limit))
 
--- its length as the code counts it
-module _ (m : Mesh) (f n : ℕ) (e : n ≡ ringLength m f) where
-  pub length-none : n ≡ 0 → T (ringWhole m f) → ⊥
-  unfolding ringLength
-  length-none z h = let l : n ≡ length (ring m f) = e ∙ rw (T-true (ringWhole m f) h) in omega (arith, whole-three m f h)
-
-  pub length-some : (n ≡ 0 → ⊥) → T (ringWhole m f) × (n ≡ length (ring m f))
-  unfolding ringLength
-  length-some nz = go (ringWhole m f) refl
-    where
-      go : (b : Bool) → ringWhole m f ≡ b → T (ringWhole m f) × (n ≡ length (ring m f))
-      go true q = (true-T q, e ∙ rw q)
-      go false q = absurd (nz (e ∙ rw q))
-
 -- ---- sums
 
 -- terms that are none above, and add up to as much, are the same
@@ -104,9 +90,6 @@ bit-back false false e h = absurd h
 -- ---- the arcs on a ring, and those that hold its face
 
 module _ (m : Mesh) (f : ℕ) (w : RingWhole m f) where
-  arc-count : ℕ
-  arc-count = length (m .arcs)
-
   pub on-ring : (x : ℕ) → T (has (ring m f) x) → Holds m f x
   unfolding ringHolds
   on-ring x i =

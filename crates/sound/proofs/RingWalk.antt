@@ -1,23 +1,21 @@
--- A ring walked once: what is known of the arcs passed, and what each way out of the walk tells of the ring.
+-- A walk along a ring: what is known of the arcs passed. A whole ring is a walk that comes back, and a walk that comes back is the ring.
 use Prim.Native.Nat.{ℕ, _+_, _≤_, _<_}
 use native.Mathlib.Numerals.{add-one}
 use native.Mathlib.Omega.{arith}
 use native.Mathlib.Decide.{ℕ-discrete, decLt}
 use mathlib.Core.Path.{_≡_, ap, sym, subst, _∙_}
-use mathlib.Core.Bool.{Bool, true, false, not, cond, _&&_}
-use mathlib.Core.List.{List}
-use lib.ListN.{length, getD, set, length-set}
-use lib.Seq.{getD-set-same, getD-set-other}
+use mathlib.Core.Bool.{Bool, cond, _&&_}
+use lib.ListN.{length, getD}
 use lib.Dec.{T, eqb, leb, le→leb}
 use lib.Ieee.Fits.{and-l, and-r, and-i}
 use borrow.Author.Tests.{le-leb, lt-leb}
-use Rattle.rules.specs.Table.{Table, cell, there, every, allBelow, times}
+use Rattle.rules.specs.Table.{Table, cell, there, every, times}
 use Rattle.rules.specs.Mesh.{Mesh, ringLimit, source, next, previous, face, faceArc}
 use Rattle.rules.specs.Link.{ring, ringEnded}
 use Rattle.rules.specs.Sound.{namesHolder, comesBack, threeToLimit, sourcesDiffer, ringHolds, runsBack}
 use Rattle.rules.proofs.Scan.{every-passes}
-use Rattle.rules.proofs.Sums.{all-at, every-has}
-use Rattle.proved.proofs.Rows.{T-true, T-false, true-T, differ, differ-T, all-from, in-table}
+use Rattle.rules.proofs.Sums.{every-has}
+use Rattle.proved.proofs.Rows.{T-true, T-false, true-T, in-table}
 use Rattle.proved.proofs.Around.{times-none, times-more, walk-at, walk-back, place-has, one-place, places-differ, walk-closes}
 use Rattle.sound.specs.Rings.{ringArc, ringWhole, ringLength}
 use Rattle.sound.proofs.RingRows.{ring-few}
@@ -45,32 +43,15 @@ module _ (arcs : Table) (first f : ℕ) where
   pub on-more : (n : ℕ) → on (n + 1) ≡ cell arcs (on n) 2
   on-more n = rw (add-one n) (times-more (λ y. cell arcs y 2) n first)
 
-  pub walked-none : Walked 0
-  walked-none = record { passes = λ k l. let z : ⊥ = omega arith in absurd z; apart = λ j k a b e. let z : ⊥ = omega arith in absurd z }
-
   pub away-none : Away 0
   away-none k a b e = omega arith
 
-  module _ (n : ℕ) where
-    pub away-more : Away n → (on (n + 1) ≡ first → ⊥) → Away (n + 1)
-    away-more h z k a b e = go (ℕ-discrete k (n + 1))
-      where
-        go : Dec (k ≡ n + 1) → ⊥
-        go (yes q) = z (ap on (sym q) ∙ e)
-        go (no q) = h k a (omega arith) e
-
-    pub walked-more : Walked n → T (ringArc arcs f (on n)) → ((j : ℕ) → j < n → cell arcs (on j) 0 ≡ cell arcs (on n) 0 → ⊥) → Walked (n + 1)
-    walked-more w t s = record { passes = λ k l. pass k (ℕ-discrete k n) l; apart = λ j k a b e. one j k (ℕ-discrete j n) (ℕ-discrete k n) a b e }
-      where
-        pass : (k : ℕ) → Dec (k ≡ n) → k < n + 1 → T (ringArc arcs f (on k))
-        pass k (yes q) l = subst (λ (z : ℕ). T (ringArc arcs f (on z))) (sym q) t
-        pass k (no q) l = w .passes k (omega arith)
-
-        one : (j k : ℕ) → Dec (j ≡ n) → Dec (k ≡ n) → j < n + 1 → k < n + 1 → cell arcs (on j) 0 ≡ cell arcs (on k) 0 → j ≡ k
-        one j k (yes p) (yes q) a b e = p ∙ sym q
-        one j k (yes p) (no q) a b e = absurd (s k (omega arith) (sym e ∙ ap (λ (z : ℕ). cell arcs (on z) 0) p))
-        one j k (no p) (yes q) a b e = absurd (s j (omega arith) (e ∙ ap (λ (z : ℕ). cell arcs (on z) 0) q))
-        one j k (no p) (no q) a b e = w .apart j k (omega arith) (omega arith) e
+  pub away-more : (n : ℕ) → Away n → (on (n + 1) ≡ first → ⊥) → Away (n + 1)
+  away-more n h z k a b e = go (ℕ-discrete k (n + 1))
+    where
+      go : Dec (k ≡ n + 1) → ⊥
+      go (yes q) = z (ap on (sym q) ∙ e)
+      go (no q) = h k a (omega arith) e
 
 -- ---- and the ring
 
@@ -147,77 +128,12 @@ module _ (m : Mesh) (f : ℕ) where
         go (yes l) = rw (lt-leb 3 (n + 1) (omega arith)) (none-long (λ h. let q = whole-three m f h in omega (arith, closes .1)))
         go (no l) = rw (le-leb 3 (n + 1) (omega arith), T-true (ringWhole m f) (whole (omega arith)), closes .1)
 
--- ---- the ways out, on the table that the code reads
+-- ---- on the table that the code reads
 
 module _ (m : Mesh) (f : ℕ) (arcs : Table) (first : ℕ) (ea : m .arcs ≡ arcs) (ef : faceArc m f ≡ first) (n : ℕ) where
   as-read : (P : Table → ℕ → Type 0) → P (m .arcs) (faceArc m f) → P arcs first
   as-read P p = subst (λ (t : Table). P t first) ea (subst (λ (x : ℕ). P (m .arcs) x) ef p)
 
-  -- an arc that fails
-  pub arc-fails : Away arcs first f n → ringArc arcs f (on arcs first f n) ≡ false → 0 ≡ ringLength m f
-  arc-fails = as-read (λ t x. Away t x f n → ringArc t f (on t x f n) ≡ false → 0 ≡ ringLength m f) (λ z e. none-long m f (λ h. subst T e (whole-walked m f h .passes n (longer m f h n z))))
-
-  -- a source for the second time: whatever tells that, where it would pass with no source like it before
-  pub source-fails : (b : Bool) → (((j : ℕ) → j < n → cell arcs (on arcs first f j) 0 ≡ cell arcs (on arcs first f n) 0 → ⊥) → T b) → Away arcs first f n → b ≡ false → 0 ≡ ringLength m f
-  source-fails b = as-read (λ t x. (((j : ℕ) → j < n → cell t (on t x f j) 0 ≡ cell t (on t x f n) 0 → ⊥) → T b) → Away t x f n → b ≡ false → 0 ≡ ringLength m f) (λ g z e. none-long m f (λ h. let q = longer m f h n z in subst T e (g (λ j l y. let r = whole-walked m f h .apart j n (omega arith) q y in omega arith))))
-
   -- 64 arcs, and not back
   pub end-fails : Away arcs first f n → 64 ≤ n → 0 ≡ ringLength m f
   end-fails = as-read (λ t x. Away t x f n → 64 ≤ n → 0 ≡ ringLength m f) (λ z l. none-long m f (λ h. let b = longer m f h n z in omega (arith, ring-few m f)))
-
-  -- back at the first
-  pub comes-back : Walked arcs first f (n + 1) → Away arcs first f n → on arcs first f (n + 1) ≡ first → n < 64 → cond (leb 3 (n + 1)) (n + 1) 0 ≡ ringLength m f
-  comes-back = as-read (λ t x. Walked t x f (n + 1) → Away t x f n → on t x f (n + 1) ≡ x → n < 64 → cond (leb 3 (n + 1)) (n + 1) 0 ≡ ringLength m f) (length-is m f n)
-
--- ---- the loop: n arcs are passed, x is next, and the list has the sources of those passed
-
-pub record Going (arcs : Table) (first f : ℕ) (sources : List ℕ) (n x : ℕ) : Type 0 where
-  pub size : length sources ≡ 64
-  pub here : x ≡ on arcs first f n
-  pub walked : Walked arcs first f n
-  pub away : Away arcs first f n
-  pub kept : (k : ℕ) → k < n → getD sources k 0 ≡ cell arcs (on arcs first f k) 0
-
-module _ (arcs : Table) (first f : ℕ) (sources : List ℕ) where
-  pub going-start : length sources ≡ 64 → Going arcs first f sources 0 first
-  going-start s = record { size = s; here = sym (on-none arcs first f); walked = walked-none arcs first f; away = away-none arcs first f; kept = λ k l. let z : ⊥ = omega arith in absurd z }
-
-  module _ (n x : ℕ) (g : Going arcs first f sources n x) where
-    pub arc-out : ringArc arcs f x ≡ false → (m : Mesh) → m .arcs ≡ arcs → faceArc m f ≡ first → 0 ≡ ringLength m f
-    arc-out e m ea ef = arc-fails m f arcs first ea ef n (g .away) (sym (ap (ringArc arcs f) (g .here)) ∙ e)
-
-    pub end-out : 64 ≤ n → (m : Mesh) → m .arcs ≡ arcs → faceArc m f ≡ first → 0 ≡ ringLength m f
-    end-out l m ea ef = end-fails m f arcs first ea ef n (g .away) l
-
-    -- the source of x
-    module _ (s : ℕ) (es : s ≡ cell arcs x 0) where
-      abbrev fresh : Bool
-      fresh = allBelow (λ j. not (eqb (getD sources j 0) s)) n
-
-      source-is : s ≡ cell arcs (on arcs first f n) 0
-      source-is = es ∙ ap (λ (z : ℕ). cell arcs z 0) (g .here)
-
-      pub source-out : fresh ≡ false → (m : Mesh) → m .arcs ≡ arcs → faceArc m f ≡ first → 0 ≡ ringLength m f
-      source-out e m ea ef =
-          source-fails m f arcs first ea ef n fresh
-          (λ h. all-from (λ j. not (eqb (getD sources j 0) s)) n (λ j l. differ-T (getD sources j 0) s (λ q. h j l (sym (g .kept j l) ∙ q ∙ source-is)))) (g .away) e
-
-      -- x passes, and y comes after it
-      module _ (few : n < 64) (p : ringArc arcs f x ≡ true) (q : fresh ≡ true) (y : ℕ) (ey : y ≡ cell arcs x 2) where
-        one-further : Walked arcs first f (n + 1)
-        one-further =
-            walked-more arcs first f n (g .walked) (true-T (sym (ap (ringArc arcs f) (g .here)) ∙ p))
-            (λ j l e. differ (getD sources j 0) s (all-at (λ k. not (eqb (getD sources k 0) s)) n (true-T q) j l) (g .kept j l ∙ e ∙ sym source-is))
-
-        y-is : y ≡ on arcs first f (n + 1)
-        y-is = ey ∙ ap (λ (z : ℕ). cell arcs z 2) (g .here) ∙ sym (on-more arcs first f n)
-
-        pub back-out : y ≡ first → (m : Mesh) → m .arcs ≡ arcs → faceArc m f ≡ first → cond (leb 3 (n + 1)) (n + 1) 0 ≡ ringLength m f
-        back-out e m ea ef = comes-back m f arcs first ea ef n one-further (g .away) (sym y-is ∙ e) few
-
-        pub going-on : (y ≡ first → ⊥) → Going arcs first f (set sources n s) (n + 1) y
-        going-on e = record { size = length-set sources n s ∙ g .size; here = y-is; walked = one-further; away = away-more arcs first f n (g .away) (λ z. e (y-is ∙ z)); kept = λ k l. go k (ℕ-discrete k n) l }
-          where
-            go : (k : ℕ) → Dec (k ≡ n) → k < n + 1 → getD (set sources n s) k 0 ≡ cell arcs (on arcs first f k) 0
-            go k (yes z) l = ap (λ (i : ℕ). getD (set sources n s) i 0) z ∙ getD-set-same sources n s 0 (omega (arith, g .size)) ∙ source-is ∙ ap (λ (i : ℕ). cell arcs (on arcs first f i) 0) (sym z)
-            go k (no z) l = getD-set-other sources n k s 0 z ∙ g .kept k (omega arith)

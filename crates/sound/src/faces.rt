@@ -5,7 +5,6 @@
 
 use crate::blanks;
 use crate::keys;
-use crate::links;
 use crate::passes;
 use crate::short;
 use rules::ArcRow;
@@ -19,32 +18,15 @@ ghost use Prim.Native.Nat.{_≤_};
 ghost use lib.ListN.{length, getD};
 ghost use lib.Ieee.{Float};
 ghost use lib.Dec.{eqb, leb};
-ghost use Rattle.rules.specs.Table.{Table, cell, count, allBelow};
+ghost use Rattle.rules.specs.Table.{Table, count, allBelow};
 ghost use Rattle.rules.specs.Mesh.{Mesh, mesh, faceArc};
 ghost use Rattle.proved.specs.Demand.{holdsSome};
 ghost use Rattle.sound.specs.Tests.{faceTest};
 ghost use Rattle.sound.specs.Names.{keysRise};
 ghost use Rattle.sound.specs.Parts.{facesSound};
-ghost use Rattle.sound.specs.Rings.{ringArc, ringLength, ringRow, apart, linkedLength, ringsFull};
+ghost use Rattle.sound.specs.Rings.{ringRow, apart, linkedLength, ringsFull};
 
-// ---- one ring, walked once
-
-// Whether previous of next is the arc itself.
-fn back_at(arcs: &[ArcRow], x: u32) -> bool
-    ensures { λ r. ⌜ r ≡ eqb (cell (now (arcs .entry)) (cell (now (arcs .entry)) x 2) 3) x ⌝ }
-{
-    rows::cell6(arcs, rows::cell6(arcs, x, 2), 3) == x
-}
-
-// An arc of the ring holds the face, and previous runs it backwards.
-fn arc_on_ring(arcs: &[ArcRow], x: u32, f: usize) -> bool
-    ensures { λ r. ⌜ r ≡ ringArc (now (arcs .entry)) f x ⌝ }
-{
-    if !links::arc_has(arcs, x, 4, f) {
-        return false;
-    }
-    back_at(arcs, x)
-}
+// ---- one ring, walked once, its arcs linked: each leaves where the arc before ends
 
 // Sources are distinct: this one is none of the n before.
 fn new_source(sources: &[u32; RING], n: usize, source: u32) -> bool
@@ -75,34 +57,6 @@ fn three_or_none(n: usize) -> usize
 fn known_places(sources: [u32; RING])
     ensures { λ _. ⌜ length sources ≡ 64 ⌝ }
 {}
-
-// How many arcs the ring of a face has, where all that is asked of one ring holds; else 0. The walk begins at the arc that the face's
-// record names, and has 64 arcs at most. What stood in the list of sources does not matter.
-pub fn ring_length(sources: &mut [u32; RING], arcs: &[ArcRow], first: u32, f: usize) -> usize
-    ensures { λ r. ⌜ ((m : Mesh) → m .arcs ≡ now (arcs .entry) → faceArc m f ≡ first → r ≡ ringLength m f) ⌝ }
-{
-    known_places(*sources);
-    let mut n: usize = 0;
-    let mut x = first;
-    while n < RING {
-        if !arc_on_ring(arcs, x, f) {
-            return 0;
-        }
-        let source = rows::cell6(arcs, x, 0);
-        if !new_source(sources, n, source) {
-            return 0;
-        }
-        sources[n] = source;
-        n += 1;
-        x = rows::cell6(arcs, x, 2);
-        if x == first {
-            return three_or_none(n);
-        }
-    }
-    0
-}
-
-// ---- one ring, its arcs linked: each leaves where the arc before ends
 
 // Whether the table has a row with the link.
 pub fn has_row(arcs: &[ArcRow], x: u32) -> bool
@@ -146,8 +100,9 @@ fn meets_first(before: u32, back: u32, end: u32, start: u32) -> bool
     end == start
 }
 
-// How many arcs the ring of a face has, where all that is asked of one ring holds and its arcs are linked; else 0. Each arc's row is
-// read once.
+// How many arcs the ring of a face has, where all that is asked of one ring holds and its arcs are linked; else 0. The walk begins
+// at the arc that the face's record names, has 64 arcs at most, and reads each arc's row once. What stood in the list of sources does not
+// matter.
 fn walked_length(sources: &mut [u32; RING], arcs: &[ArcRow], first: u32, f: usize) -> usize
     ensures { λ r. ⌜ ((m : Mesh) → m .arcs ≡ now (arcs .entry) → faceArc m f ≡ first → r ≡ linkedLength m f) ⌝ }
 {
