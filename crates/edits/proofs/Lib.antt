@@ -1,4 +1,3 @@
-pub mod Ends
 pub mod Inserts
 pub mod Steps
 pub mod Whole

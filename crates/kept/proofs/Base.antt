@@ -1,13 +1,9 @@
 -- A sound mesh is one of which every clause but that on rings holds, and whose rings are sound. It has two free arcs for each free edge.
-use Prim.Native.Nat.{ℕ, _+_, _*_, _≤_}
+use Prim.Native.Nat.{ℕ, _*_, _≤_}
 use native.Mathlib.Omega.{arith}
-use mathlib.Core.Path.{_≡_, refl}
-use mathlib.Core.Bool.{Bool, true, false, not}
-use mathlib.Core.List.{[], _∷_}
-use lib.ListN.{length}
-use Rattle.rules.specs.Table.{Table, count, used, unused}
+use Rattle.rules.specs.Table.{count, unused}
 use Rattle.rules.specs.Mesh.{Mesh}
-use Rattle.rules.proofs.Counts.{bit, count-cons}
+use Rattle.rules.proofs.Counts.{used-unused}
 use Rattle.proved.specs.Facts.{SoundFacts, RingFacts, IsFace}
 use Rattle.proved.proofs.SoundParts.{parts}
 use Rattle.proved.proofs.Totals.{arcs-at-most}
@@ -15,15 +11,7 @@ use Rattle.proved.proofs.Edges.{Edges}
 use Rattle.proved.proofs.Clauses.{sound-from}
 use Rattle.kept.specs.Frame.{AllButRings}
 
-used-unused : (t : Table) → count used t + count unused t ≡ length t
-unfolding count
-used-unused [] = refl
-used-unused (r ∷ rs) = omega (arith, count-cons used r rs, count-cons unused r rs, used-unused rs, one (unused r))
-  where
-    one : (b : Bool) → bit (not b) + bit b ≡ 1
-    one true = refl
-    one false = refl
-
+-- two free arcs for each free edge
 two-free : (m : Mesh) → SoundFacts m → 2 * count unused (m .edges) ≤ count unused (m .arcs)
 two-free m s =
     omega (arith, arcs-at-most m (parts m (sound-from m s)), used-unused (m .arcs), used-unused (m .edges), s .sizes .arc-rows)

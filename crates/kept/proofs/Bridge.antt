@@ -1,14 +1,12 @@
 -- A face bridge: its walls stand like a ladder between the two rings, whose rungs run from the sources of the first ring's arcs to the
 -- destinations of the second's, reversed. So n edges and n - 2 faces suffice, and n face keys.
 use Prim.Native.Nat.{ℕ, zero, suc, _+_, _-_, _≤_, _<_, zero-le}
-use native.Mathlib.Nat.{not-suc-le-zero}
 use native.Mathlib.Omega.{arith}
 use native.Mathlib.Decide.{ℕ-discrete}
 use mathlib.Core.Path.{_≡_, refl, ap, sym, subst, _∙_}
 use mathlib.Core.Bool.{not, cond}
-use mathlib.Core.List.{List, [], _∷_, _++_, reverse, reverse-cons}
-use lib.ListN.{length, getD, length-reverse, List·getD-append}
-use lib.Seq.{getD-append-add}
+use mathlib.Core.List.{List, _++_, reverse}
+use lib.ListN.{length, getD}
 use lib.Dec.{T, eqb}
 use borrow.Author.Tests.{ne-eqb, eq-eqb}
 use Rattle.rules.specs.declared.Answer.the-variants.{Key, Done, Refused}
@@ -20,6 +18,7 @@ use Rattle.rules.specs.Step.{step, accepted, checked}
 use Rattle.rules.specs.Insert.{insertWork}
 use Rattle.rules.specs.Edit.{remove, corners, arcBridgeChecks, arcBridgeWork, arcBridge, bridgeChecks, bridgeWork}
 use Rattle.rules.specs.Call.{Need, needs}
+use Rattle.rules.proofs.Ends.{from-end}
 use Rattle.proved.specs.Demand.{Holds}
 use Rattle.proved.specs.Facts.{SoundFacts, IsVertex, IsArc, IsFace}
 use Rattle.proved.proofs.Ring.{ring-counts, ring-from}
@@ -43,21 +42,6 @@ use Rattle.kept.proofs.Local.{has-first, has-second, local-onto, ends-o
 use Rattle.kept.proofs.Ladder.{Ladder, Climbed, Stopped, climbed-none, climb, climbed-left, climbed-since}
 use Rattle.kept.proofs.ArcBridge.{bridge-passed}
 use Rattle.kept.proofs.WithinNeed.{Made, OnTop, climbed-within, climbed-all}
-
--- ---- a list read from its end
-
-from-end : (l : List ℕ) (i : ℕ) → i < length l → getD (reverse l) i 0 ≡ getD l (length l - 1 - i) 0
-from-end [] i q = absurd (not-suc-le-zero q)
-from-end (x ∷ xs) i q = ap (λ (r : List ℕ). getD r i 0) (reverse-cons x xs) ∙ go (from-end xs i) (ℕ-discrete i (length xs))
-  where
-    go : (i < length xs → getD (reverse xs) i 0 ≡ getD xs (length xs - 1 - i) 0) → Dec (i ≡ length xs) → getD (reverse xs ++ (x ∷ [])) i 0 ≡ getD (x ∷ xs) (length (x ∷ xs) - 1 - i) 0
-    go ih (yes e) =
-        let k : i ≡ length (reverse xs) + 0 = omega (arith, length-reverse xs) in
-        let z : length (x ∷ xs) - 1 - i ≡ 0 = omega arith in
-        ap (λ (j : ℕ). getD (reverse xs ++ (x ∷ [])) j 0) k ∙ getD-append-add (reverse xs) (x ∷ []) 0 0 ∙ ap (λ (j : ℕ). getD (x ∷ xs) j 0) (sym z)
-    go ih (no ne) =
-        let z : length (x ∷ xs) - 1 - i ≡ suc (length xs - 1 - i) = omega arith in
-        List·getD-append (reverse xs) (x ∷ []) 0 i (omega (arith, length-reverse xs)) ∙ ih (omega arith) ∙ ap (λ (j : ℕ). getD (x ∷ xs) j 0) (sym z)
 
 -- counted from the end, the place after one comes before it
 from-end-after : (n k : ℕ) → k < n → after n (n - 1 - after n k) ≡ n - 1 - k

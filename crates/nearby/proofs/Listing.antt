@@ -8,9 +8,9 @@ use mathlib.Core.List.{List, [], _∷_, _++_}
 use lib.ListN.{length, getD, set, take, length-set}
 use Rattle.rules.specs.Table.{Table, has}
 use Rattle.rules.specs.Mesh.{oppositeOf}
+use Rattle.tables.proofs.Runs.{over-run}
 use Rattle.pairs.specs.Pairs.{NoMarks}
 use Rattle.pairs.specs.Near.{isMarked}
-use Rattle.pairs.proofs.Blocks.{over-run}
 use Rattle.pairs.proofs.Has.{has-last, has-left, one-written}
 use Rattle.pairs.proofs.Listing.{both}
 use Rattle.nearby.specs.Rows.{ListedTo}

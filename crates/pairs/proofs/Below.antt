@@ -27,14 +27,6 @@ some-here p (suc n) i l e = go (λ q. some-here p n i q e) (ℕ-discrete i n)
     go h (yes q) = rw (← q, e) (or-true (someBelow p i))
     go h (no nq) = rw (h (omega arith))
 
--- none below n passes: no one of them does
-pub some-none : (p : ℕ → Bool) (n i : ℕ) → i < n → someBelow p n ≡ false → p i ≡ false
-some-none p n i l h = go (p i) refl
-  where
-    go : (b : Bool) → p i ≡ b → p i ≡ false
-    go false e = e
-    go true e = let z : _≡_ {A = ℕ} 0 1 = ap (λ (t : Bool). cond t 1 0) (sym h ∙ some-here p n i l e) in absurd (omega arith)
-
 -- none below i + 1 passes: none below i does, nor does i
 pub or-left : (a b : Bool) → (a || b) ≡ false → a ≡ false
 or-left true b e = e

@@ -11,10 +11,10 @@ use mathlib.Core.List.{List, [], _∷_, _++_}
 use lib.ListN.{length, getD, set, take, length-append, List·getD-append}
 use lib.Seq.{getD-set-same, getD-set-other}
 use Rattle.rules.specs.Table.{Table, cell, has, unused, orElse}
+use Rattle.tables.proofs.Runs.{over-run}
 use Rattle.pairs.specs.Pairs.{markCount, NoMarks}
 use Rattle.pairs.specs.Near.{isMarked, Rising, Listing, Near, Passable, Onward, ListedTo, Chained}
 use Rattle.pairs.specs.declared.near.Nearby.{Nearby}
-use Rattle.pairs.proofs.Blocks.{over-run}
 use Rattle.pairs.proofs.Filled.{some-link}
 use Rattle.pairs.proofs.Has.{has-last, has-left, at-place}
 

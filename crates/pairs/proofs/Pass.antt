@@ -15,9 +15,9 @@ use Rattle.rules.specs.Table.{Table, upTo, after, orElse, firstRow, linkInto, r
 use Rattle.rules.specs.Mesh.{joins, arcBetween, placesOf, linksOf}
 use Rattle.rules.proofs.Scan.{joins-no-source}
 use Rattle.rules.proofs.Places.{place-is, places-length}
+use Rattle.tables.proofs.Runs.{over-run}
 use Rattle.tables.proofs.Scans.{Missed, into-found, into-none, into-large}
 use Rattle.pairs.specs.Pairs.{pairArc, arcsOf, markCount, markedAt, marksOf, NoMarks, isPair, noteAt, noted}
-use Rattle.pairs.proofs.Blocks.{over-run}
 use Rattle.pairs.proofs.Steps.{markAt}
 use Rattle.pairs.proofs.Listed.{arcs-length, arcs-at, arcs-past}
 

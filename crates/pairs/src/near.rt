@@ -155,6 +155,19 @@ fn meet(near: &mut [u32; NEAR], arcs: &[ArcRow], i: usize, m: Met) -> Met
     }
 }
 
+// A list that tells nothing.
+fn nothing_listed() -> Nearby
+    ensures { λ r. ⌜ (r .len ≡ 0) × ((r .spare ≡ 0) × ((r .first ≡ 0) × ((r .used ≡ 0) × (r .chained ≡ 0)))) ⌝ }
+{
+    Nearby {
+        len: 0,
+        spare: 0,
+        first: 0,
+        used: 0,
+        chained: 0,
+    }
+}
+
 // Lists the arcs that leave a vertex with a mark, and unused rows from the lowest on, at most so many.
 pub fn list_near(
     near: &mut [u32; NEAR],
@@ -165,13 +178,7 @@ pub fn list_near(
     ensures { λ r. ⌜ Near (now (arcs .entry)) (now (seen .entry)) (now (near .exit)) r × ((k : ℕ) → k + 1 < r .first → unused (getD (now (arcs .entry)) k []) ≡ false) ⌝ }
 {
     if arcs.len() > ROW_LIMIT {
-        return Nearby {
-            len: 0,
-            spare: 0,
-            first: 0,
-            used: 0,
-            chained: 0,
-        };
+        return nothing_listed();
     }
     known_marks(*seen);
     let mut marks = *seen;
@@ -188,13 +195,7 @@ pub fn list_near(
     let mut i = onward(arcs, seen, &marks, rows, 0);
     while i < arcs.len() {
         if m.len >= LISTED {
-            return Nearby {
-                len: 0,
-                spare: 0,
-                first: 0,
-                used: 0,
-                chained: 0,
-            };
+            return nothing_listed();
         }
         m = meet(near, arcs, i, m);
         i = onward(arcs, seen, &marks, m.left, i + 1);

@@ -1,12 +1,12 @@
--- How many rows pass a test, after a store; and that a row that passes is found.
+-- How many rows pass a test, after a store; that a row that passes is found; and that a row is used or unused.
 use Prim.Native.Nat.{ℕ, zero, suc, _+_, _-_, _≤_, _<_, zero-le, suc-le-suc}
 use native.Mathlib.Nat.{le-of-suc-le-suc, not-suc-le-zero}
 use mathlib.Core.Path.{_≡_, refl, ap, sym, _∙_}
-use mathlib.Core.Bool.{Bool, true, false, cond}
+use mathlib.Core.Bool.{Bool, true, false, not, cond}
 use mathlib.Core.List.{List, [], _∷_}
 use native.Mathlib.Omega.{arith}
 use lib.ListN.{length, getD, set}
-use Rattle.rules.specs.Table.{firstRow, count, below}
+use Rattle.rules.specs.Table.{Table, firstRow, count, below, used, unused}
 
 abbrev pub bit : Bool → ℕ
 bit true = 1
@@ -62,3 +62,13 @@ module _ {ℓ} {A : Type ℓ} where
           let z : suc (suc k) - 1 ≡ suc k = omega arith in
           let y : suc k - 1 ≡ k = omega arith in
           rw z (rw y at (ih (suc-le-suc zero-le)))
+
+-- the used rows and the unused ones are all rows
+pub used-unused : (t : Table) → count used t + count unused t ≡ length t
+unfolding count
+used-unused [] = refl
+used-unused (r ∷ rs) = omega (arith, count-cons used r rs, count-cons unused r rs, used-unused rs, one (unused r))
+  where
+    one : (b : Bool) → bit (not b) + bit b ≡ 1
+    one true = refl
+    one false = refl

@@ -1,8 +1,5 @@
--- For the blocks of rows that hold a face: the tests of a block put together, and what a run of such rows counts.
+-- For the runs of rows that hold a face: the rows of a run pass, and each counts one.
 use Prim.Native.Nat.{ℕ, _+_, _-_, _≤_, _<_}
-use native.Mathlib.Nat.{le-refl}
-use native.Mathlib.Decide.{le-ind, decLt}
-use native.Mathlib.Numerals.{add-one}
 use native.Mathlib.Omega.{arith}
 use mathlib.Core.Path.{_≡_, refl, sym, subst}
 use mathlib.Core.Bool.{Bool, true, false, _&&_}
@@ -11,12 +8,14 @@ use lib.ListN.{length, getD}
 use lib.Dec.{T}
 use Rattle.rules.specs.Table.{Table, used}
 use Rattle.proved.specs.Demand.{holdsSome}
+use Rattle.tables.proofs.Runs.{one-row, join-runs, over-run}
 use Rattle.tables.proofs.Scans.{Counted, counted-one}
 use Rattle.names.proofs.Loops.{Passed, one-more}
 use Rattle.sound.specs.Tests.{arcTest}
 use Rattle.sound.specs.Parts.{AllHold, HeldTo}
 use Rattle.sound.proofs.Rows.{holder-passes}
 
+-- two tests that pass together: the first passes, and the second
 pub and-first : (a b : Bool) → (a && b) ≡ true → a ≡ true
 and-first true b e = refl
 and-first false b e = e
@@ -26,28 +25,6 @@ and-second true b e = e
 and-second false b e = let z : ⊥ = subst T (sym e) tt in absurd z
 
 module _ (arcs : Table) where
-  pub no-rows : (i r : ℕ) → r ≤ i → AllHold arcs i r
-  no-rows i r l j a b = let z : ⊥ = omega arith in absurd z
-
-  pub one-row : (i : ℕ) → holdsSome (getD arcs i []) ≡ true → AllHold arcs i (i + 1)
-  one-row i h j a b = let q : i ≡ j = omega arith in subst (λ (z : ℕ). holdsSome (getD arcs z []) ≡ true) q h
-
-  pub join-runs : (i m r : ℕ) → AllHold arcs i m → AllHold arcs m r → AllHold arcs i r
-  join-runs i m r h s j a b = go (decLt j m)
-    where
-      go : Dec (j < m) → holdsSome (getD arcs j []) ≡ true
-      go (yes l) = h j a l
-      go (no l) = s j (omega arith) b
-
-  -- t tells of the k rows gone through, s of the row that follows
-  pub row-more : (i k : ℕ) (t s : Bool) → s ≡ holdsSome (getD arcs (i + k) []) → (t ≡ true → AllHold arcs i (i + k)) → (t && s) ≡ true → AllHold arcs i (i + (k + 1))
-  row-more i k t s es h e =
-      let q : i + k + 1 ≡ i + (k + 1) = omega arith in
-      let last = one-row (i + k) (rw (← es) (and-second t s e)) in
-      subst (λ (z : ℕ). AllHold arcs i z) q (join-runs i (i + k) (i + k + 1) (h (and-first t s e)) last)
-
-  -- ---- the rows of a run pass, and each counts one
-
   -- every row below k passes, so many of them are arcs, and so many hold a face
   abbrev pub Told : ℕ → ℕ → ℕ → Type 0
   Told there held k = Passed (λ j. arcTest arcs (getD arcs j [])) k × (Counted used arcs [] there k × Counted holdsSome arcs [] held k)
@@ -63,7 +40,7 @@ module _ (arcs : Table) where
     ToldAt k = Told (held + (k - i) + loose) (held + (k - i)) k
 
     all-hold : AllHold arcs i r
-    all-hold = join-runs i (i + 1) r (one-row i e) (run .1 .1)
+    all-hold = join-runs _ i (i + 1) r (one-row _ i e) (run .1 .1)
 
     told-more : (k : ℕ) → i ≤ k → k < r → ToldAt k → ToldAt (k + 1)
     told-more k a l h =
@@ -74,4 +51,4 @@ module _ (arcs : Table) where
     pub told-run : Told (held + loose) held i → Told (held + (r - i) + loose) (held + (r - i)) r
     told-run h =
         let z : held + (i - i) ≡ held = omega arith in
-        le-ind (λ (k : ℕ). k ≤ r → ToldAt k) (λ q. rw z h) (λ k a f q. subst ToldAt (add-one k) (told-more k a q (f (omega arith)))) r (omega (arith, run .0)) (le-refl r)
+        over-run ToldAt i r (omega (arith, run .0)) told-more (rw z h)

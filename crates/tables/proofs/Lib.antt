@@ -3,4 +3,5 @@ pub mod Scans
 pub mod Field
 pub mod Lists
 pub mod Exact
+pub mod Runs
 pub mod ZeroRows

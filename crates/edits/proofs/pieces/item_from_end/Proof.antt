@@ -3,7 +3,7 @@ use native.Mathlib.Omega.{arith}
 use mathlib.Core.Path.{ap, sym, _∙_}
 use lib.ListN.{getD}
 use Rattle.rules.specs.Mesh.{listOf}
-use Rattle.edits.proofs.Ends.{from-end, past-first}
+use Rattle.rules.proofs.Ends.{from-end, past-first}
 use borrow.Author.Needs.{needs}
 use Rattle.edits.proofs.pieces.item_from_end.Statement.{statement}
 use Rattle.edits.proofs.pieces.item_from_end.Tie as tie

@@ -17,8 +17,13 @@ Inv-loop near₀ arcs seen rows marks m₀ i₀ near m i = (i ≤ length arcs) �
 abbrev μ-loop : tie.MeasureT-loop
 μ-loop near₀ arcs seen rows marks m₀ i₀ near m i = length arcs - i
 
+nothing-listed-requires : tie.Need-nothing-listed-requires Inv-loop μ-loop
+nothing-listed-requires c κs = search needs
+
 returns : tie.Need-returns Inv-loop μ-loop
-returns c = (λ some. absurd (omega arith), λ k q. absurd (omega arith))
+returns c =
+    let z = c .nothing-listed .ensures in
+    (λ some. absurd (omega (arith, z .1 .0)), λ k q. absurd (omega (arith, z .1 .1 .0)))
 
 known-marks-requires : tie.Need-known-marks-requires Inv-loop μ-loop
 known-marks-requires c κs = search needs
@@ -39,8 +44,13 @@ loop-holds c =
     let none = c .before .before .no-chains in
     (o .ensures .1 .0, (listed-run (a .arcs .now) (a .seen .now) [] 0 (o .result) 0 0 (a .rows) 0 (o .ensures) (listed-start (a .arcs .now) (a .seen .now) (a .rows)), (le-refl 0, chained-none (a .arcs .now) (none .last .0) (none .ensures))))
 
+nothing-listed-requires-2 : tie.Need-nothing-listed-requires-2 Inv-loop μ-loop
+nothing-listed-requires-2 c κs = search needs
+
 returns-2 : tie.Need-returns-2 Inv-loop μ-loop
-returns-2 c = (λ some. absurd (omega arith), λ k q. absurd (omega arith))
+returns-2 c =
+    let z = c .nothing-listed2 .ensures in
+    (λ some. absurd (omega (arith, z .1 .0)), λ k q. absurd (omega (arith, z .1 .1 .0)))
 
 meet-requires : tie.Need-meet-requires Inv-loop μ-loop
 meet-requires c κs = search needs
@@ -76,12 +86,14 @@ list-near-spec =
     (tie.spec
     Inv-loop
     μ-loop
+    nothing-listed-requires
     returns
     known-marks-requires
     array-write-marks
     no-chains-requires
     onward-requires
     loop-holds
+    nothing-listed-requires-2
     returns-2
     meet-requires
     add-onward

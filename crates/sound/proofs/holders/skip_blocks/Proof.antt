@@ -1,9 +1,9 @@
--- `sound::holders::skip_blocks` meets its contract. The loop keeps that every row gone through holds a face; laws of HeldRuns. Assumes nothing.
+-- `sound::holders::skip_blocks` meets its contract. The loop keeps that every row gone through holds a face; laws of Runs. Assumes nothing.
 use Prim.Native.Nat.{_+_, _-_}
 use lib.ListN.{length}
 use borrow.Author.Tests.{not-false}
+use Rattle.tables.proofs.Runs.{no-rows, join-runs}
 use Rattle.sound.specs.Parts.{HeldTo}
-use Rattle.sound.proofs.HeldRuns.{no-rows, join-runs}
 use borrow.Author.Needs.{needs}
 use Rattle.sound.proofs.holders.skip_blocks.Statement.{statement}
 use Rattle.sound.proofs.holders.skip_blocks.Tie as tie
@@ -15,7 +15,7 @@ abbrev μ-loop : tie.MeasureT-loop
 μ-loop arcs from i₀ i = length arcs - i
 
 loop-holds : tie.Need-loop-holds Inv-loop μ-loop
-loop-holds c = let a = c .args in (search needs, (search needs, no-rows (a .arcs .now) (a .from) (a .from) (search needs)))
+loop-holds c = let a = c .args in (search needs, (search needs, no-rows _ (a .from) (a .from) (search needs)))
 
 sub-loop : tie.Need-sub-loop Inv-loop μ-loop
 sub-loop c = search needs
@@ -36,7 +36,7 @@ loop-again : tie.Need-loop-again Inv-loop μ-loop
 loop-again c =
     let l = c .before .before .before in
     let a = l .before .args in
-    (search needs, (search needs, join-runs (a .arcs .now) (a .from) (l .loop .i) (l .loop .i + 8) (l .loop .inv .1 .1) (c .before .block-holds .ensures (not-false _ (c .if1 .left)))))
+    (search needs, (search needs, join-runs _ (a .from) (l .loop .i) (l .loop .i + 8) (l .loop .inv .1 .1) (c .before .block-holds .ensures (not-false _ (c .if1 .left)))))
 
 returns-2 : tie.Need-returns-2 Inv-loop μ-loop
 returns-2 c = c .before .loop .inv

@@ -1,10 +1,10 @@
--- `sound::holders::skip_rows` meets its contract. The loop keeps that every row gone through holds a face; laws of HeldRuns. Assumes nothing.
+-- `sound::holders::skip_rows` meets its contract. The loop keeps that every row gone through holds a face; laws of Runs. Assumes nothing.
 use Prim.Native.Nat.{_+_, _-_}
 use mathlib.Core.Path.{sym, _∙_}
 use lib.ListN.{length}
 use borrow.Author.Tests.{not-false}
+use Rattle.tables.proofs.Runs.{no-rows, one-row, join-runs}
 use Rattle.sound.specs.Parts.{HeldTo}
-use Rattle.sound.proofs.HeldRuns.{no-rows, one-row, join-runs}
 use borrow.Author.Needs.{needs}
 use Rattle.sound.proofs.holders.skip_rows.Statement.{statement}
 use Rattle.sound.proofs.holders.skip_rows.Tie as tie
@@ -16,7 +16,7 @@ abbrev μ-loop : tie.MeasureT-loop
 μ-loop arcs from i₀ i = length arcs - i
 
 loop-holds : tie.Need-loop-holds Inv-loop μ-loop
-loop-holds c = let a = c .args in (search needs, (search needs, no-rows (a .arcs .now) (a .from) (a .from) (search needs)))
+loop-holds c = let a = c .args in (search needs, (search needs, no-rows _ (a .from) (a .from) (search needs)))
 
 mul-holds-some : tie.Need-mul-holds-some Inv-loop μ-loop
 mul-holds-some c = search needs
@@ -41,7 +41,7 @@ loop-again c =
     let l = c .before .before .before .before in
     let a = l .before .args in
     let i = l .loop .i in
-    (search needs, (search needs, join-runs (a .arcs .now) (a .from) i (i + 1) (l .loop .inv .1 .1) (one-row (a .arcs .now) i (sym (c .before .holds-some .ensures) ∙ not-false _ (c .if1 .left)))))
+    (search needs, (search needs, join-runs _ (a .from) i (i + 1) (l .loop .inv .1 .1) (one-row _ i (sym (c .before .holds-some .ensures) ∙ not-false _ (c .if1 .left)))))
 
 returns-2 : tie.Need-returns-2 Inv-loop μ-loop
 returns-2 c = c .before .loop .inv
