@@ -1,5 +1,5 @@
-// Rows that are zero already, passed over by blocks of eight before a table is zeroed: a room that a call has not worked in is zero from the call
-// before, and reading it costs less than writing it. The tests of a block are put together, so that there is no branch for each row.
+// Rows that are zero already, passed over by blocks of eight before a table is zeroed: a table of a room that a call has kept nothing in is
+// zero from the call before, and reading it costs less than writing it. The tests of a block are put together, so that there is no branch for each row.
 
 use crate::rows;
 use rules::ArcRow;

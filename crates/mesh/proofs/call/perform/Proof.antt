@@ -1,4 +1,4 @@
--- `mesh::call::perform` meets its contract: what is decided first, then the work, in room or not. Assumes nothing.
+-- `mesh::call::perform` meets its contract: what is decided first, then the work, behind what is kept or at once. Assumes nothing.
 use Prim.Native.Nat.{ℕ, _≤_}
 use native.Mathlib.Omega.{arith}
 use mathlib.Core.Path.{_≡_, refl, ap, sym, _∙_}
