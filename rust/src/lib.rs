@@ -16,7 +16,7 @@
 //! let panel = mesh.face_insert(7, &[a, b, c])?;
 //! assert_eq!(mesh.face_arity(panel)?, 3);
 //!
-//! // The same panel again: its seams have a face on that side already. Nothing has changed.
+//! // That panel again: its seams have a face on that side already. Nothing has changed.
 //! assert_eq!(mesh.face_insert(7, &[a, b, c]), Err(Refusal::TopologyConflict));
 //!
 //! let top = mesh.face_extrude(panel, Move::Shift([0.0, 0.0, 1.0]))?;

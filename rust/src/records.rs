@@ -185,13 +185,13 @@ impl<'a> Ring<'a> {
         Ring { tables, first, next: first }
     }
 
-    /// The same walk, arc by arc.
+    /// The walk round a face, arc by arc.
     pub fn arcs(self) -> impl Iterator<Item = Arc> + 'a {
         let tables = self.tables;
         self.links().map(move |link| tables.named_arc(link))
     }
 
-    /// The same walk, position by position.
+    /// The walk round a face, position by position.
     pub fn positions(self) -> impl Iterator<Item = Position> + 'a {
         self.map(|vertex| vertex.position)
     }

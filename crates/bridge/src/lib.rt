@@ -19,7 +19,8 @@ ghost use mathlib.Core.List.{List, reverse};
 ghost use Prim.Native.Nat.{ℕ};
 ghost use lib.ListN.{length, getD};
 ghost use lib.Ieee.{Float};
-ghost use Rattle.rules.specs.Mesh.{mesh, listOf};
+ghost use Rattle.rules.specs.Mesh.{listOf};
+ghost use Rattle.rules.specs.Lent.{unlent, meshBefore, meshAfter};
 ghost use Rattle.rules.specs.Step.{step};
 ghost use Rattle.rules.specs.Edit.{arcBridge, bridgeWork};
 ghost use Rattle.edits.specs.Each.{eachIn};
@@ -42,7 +43,12 @@ fn pairs_in(
 ) -> Answer
     requires { ⌜ (length (now past) ≡ length (now arcs)) × (length (now pastedges) ≡ length (now edges)) ⌝ }
     requires { ⌜ Known (now arcs) (now edges) (now faces) (now seen) (now near) around ⌝ }
-    ensures { λ r. ⌜ ((p : List (List Float)) → step (mesh (now (vertices .exit)) p (now (arcs .exit)) (now (edges .exit)) (now (faces .exit)) (now (counters .exit))) r ≡ eachIn (λ i a. arcBridge a (getD (listOf forth) i 0) (getD (reverse (listOf back)) i 0)) (length (listOf forth)) (mesh (now (vertices .entry)) p (now (arcs .entry)) (now (edges .entry)) (now (faces .entry)) (now (counters .entry)))) ⌝ }
+    ensures { λ r. ⌜
+        ((p : List (List Float)) →
+        step (meshAfter vertices (unlent p) arcs edges faces counters) r
+        ≡ eachIn (λ i a. arcBridge a (getD (listOf forth) i 0) (getD (reverse (listOf back)) i 0)) (length (listOf forth))
+        (meshBefore vertices (unlent p) arcs edges faces counters))
+        ⌝ }
 {
     let n = lists::size(forth);
     let mut i: usize = 0;
@@ -71,7 +77,7 @@ fn pairs_in(
     Answer::Done
 }
 
-// The same, with one list of the arcs near both rings.
+// The arc bridges of all pairs, source arcs in order with destination arcs reversed. The arcs near both rings are listed once, before the first.
 fn pairs_near(
     vertices: &mut [VertexRow],
     arcs: &mut [ArcRow],
@@ -84,7 +90,12 @@ fn pairs_near(
     back: Links,
 ) -> Answer
     requires { ⌜ (length (now past) ≡ length (now arcs)) × (length (now pastedges) ≡ length (now edges)) ⌝ }
-    ensures { λ r. ⌜ ((p : List (List Float)) → step (mesh (now (vertices .exit)) p (now (arcs .exit)) (now (edges .exit)) (now (faces .exit)) (now (counters .exit))) r ≡ eachIn (λ i a. arcBridge a (getD (listOf forth) i 0) (getD (reverse (listOf back)) i 0)) (length (listOf forth)) (mesh (now (vertices .entry)) p (now (arcs .entry)) (now (edges .entry)) (now (faces .entry)) (now (counters .entry)))) ⌝ }
+    ensures { λ r. ⌜
+        ((p : List (List Float)) →
+        step (meshAfter vertices (unlent p) arcs edges faces counters) r
+        ≡ eachIn (λ i a. arcBridge a (getD (listOf forth) i 0) (getD (reverse (listOf back)) i 0)) (length (listOf forth))
+        (meshBefore vertices (unlent p) arcs edges faces counters))
+        ⌝ }
 {
     lists::known_few(forth);
     let made = lists::size(forth);
@@ -130,7 +141,11 @@ pub fn bridge_work(
     g: u32,
 ) -> Answer
     requires { ⌜ (length (now past) ≡ length (now arcs)) × (length (now pastedges) ≡ length (now edges)) ⌝ }
-    ensures { λ r. ⌜ ((p : List (List Float)) → step (mesh (now (vertices .exit)) p (now (arcs .exit)) (now (edges .exit)) (now (faces .exit)) (now (counters .exit))) r ≡ bridgeWork (mesh (now (vertices .entry)) p (now (arcs .entry)) (now (edges .entry)) (now (faces .entry)) (now (counters .entry))) f g) ⌝ }
+    ensures { λ r. ⌜
+        ((p : List (List Float)) →
+        step (meshAfter vertices (unlent p) arcs edges faces counters) r
+        ≡ bridgeWork (meshBefore vertices (unlent p) arcs edges faces counters) f g)
+        ⌝ }
 {
     let forth = checks::rings::ring_of(arcs, faces, f);
     let back = checks::rings::ring_of(arcs, faces, g);

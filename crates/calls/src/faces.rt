@@ -12,7 +12,7 @@ use rules::Reply;
 use rules::VertexRow;
 use tables::answers;
 ghost use mathlib.Core.Path.{_≡_};
-ghost use Rattle.rules.specs.Mesh.{mesh, room};
+ghost use Rattle.rules.specs.Lent.{meshBefore, meshAfter, roomBefore, roomAfter};
 ghost use Rattle.rules.specs.Point.{position};
 ghost use Rattle.rules.specs.Call as Calls;
 ghost use Rattle.calls.specs.Replied.{shown, replied};
@@ -39,7 +39,12 @@ pub extern "C" fn ul_face_insert(
     mark: u32,
     keys: &[u32],
 ) -> Reply
-    ensures { λ r. ⌜ shown r (mesh (now (vertices .exit)) (now (positions .exit)) (now (arcs .exit)) (now (edges .exit)) (now (faces .exit)) (now (counters .exit))) (room (now (v1 .exit)) (now (p1 .exit)) (now (a1 .exit)) (now (e1 .exit)) (now (f1 .exit))) (room (now (v2 .exit)) (now (p2 .exit)) (now (a2 .exit)) (now (e2 .exit)) (now (f2 .exit))) ≡ replied (Calls.faceInsert (mesh (now (vertices .entry)) (now (positions .entry)) (now (arcs .entry)) (now (edges .entry)) (now (faces .entry)) (now (counters .entry))) (room (now (v1 .entry)) (now (p1 .entry)) (now (a1 .entry)) (now (e1 .entry)) (now (f1 .entry))) (room (now (v2 .entry)) (now (p2 .entry)) (now (a2 .entry)) (now (e2 .entry)) (now (f2 .entry))) (now (keys .entry)) mark) ⌝ }
+    ensures { λ r. ⌜
+        shown r (meshAfter vertices positions arcs edges faces counters) (roomAfter v1 p1 a1 e1 f1) (roomAfter v2 p2 a2 e2 f2)
+        ≡ replied
+        (Calls.faceInsert (meshBefore vertices positions arcs edges faces counters) (roomBefore v1 p1 a1 e1 f1) (roomBefore v2 p2 a2 e2 f2)
+        (now (keys .entry)) mark)
+        ⌝ }
 {
     let edit = Edit::FaceInsert(mark);
     let call = Call { edit };
@@ -86,7 +91,11 @@ pub extern "C" fn ul_face_remove(
     f2: &mut [FaceRow],
     face: u32,
 ) -> Reply
-    ensures { λ r. ⌜ shown r (mesh (now (vertices .exit)) (now (positions .exit)) (now (arcs .exit)) (now (edges .exit)) (now (faces .exit)) (now (counters .exit))) (room (now (v1 .exit)) (now (p1 .exit)) (now (a1 .exit)) (now (e1 .exit)) (now (f1 .exit))) (room (now (v2 .exit)) (now (p2 .exit)) (now (a2 .exit)) (now (e2 .exit)) (now (f2 .exit))) ≡ replied (Calls.faceRemove (mesh (now (vertices .entry)) (now (positions .entry)) (now (arcs .entry)) (now (edges .entry)) (now (faces .entry)) (now (counters .entry))) (room (now (v1 .entry)) (now (p1 .entry)) (now (a1 .entry)) (now (e1 .entry)) (now (f1 .entry))) (room (now (v2 .entry)) (now (p2 .entry)) (now (a2 .entry)) (now (e2 .entry)) (now (f2 .entry))) face) ⌝ }
+    ensures { λ r. ⌜
+        shown r (meshAfter vertices positions arcs edges faces counters) (roomAfter v1 p1 a1 e1 f1) (roomAfter v2 p2 a2 e2 f2)
+        ≡ replied
+        (Calls.faceRemove (meshBefore vertices positions arcs edges faces counters) (roomBefore v1 p1 a1 e1 f1) (roomBefore v2 p2 a2 e2 f2) face)
+        ⌝ }
 {
     let edit = Edit::FaceRemove(face);
     let call = Call { edit };
@@ -136,7 +145,11 @@ pub extern "C" fn ul_face_split(
     s: u32,
     d: u32,
 ) -> Reply
-    ensures { λ r. ⌜ shown r (mesh (now (vertices .exit)) (now (positions .exit)) (now (arcs .exit)) (now (edges .exit)) (now (faces .exit)) (now (counters .exit))) (room (now (v1 .exit)) (now (p1 .exit)) (now (a1 .exit)) (now (e1 .exit)) (now (f1 .exit))) (room (now (v2 .exit)) (now (p2 .exit)) (now (a2 .exit)) (now (e2 .exit)) (now (f2 .exit))) ≡ replied (Calls.faceSplit (mesh (now (vertices .entry)) (now (positions .entry)) (now (arcs .entry)) (now (edges .entry)) (now (faces .entry)) (now (counters .entry))) (room (now (v1 .entry)) (now (p1 .entry)) (now (a1 .entry)) (now (e1 .entry)) (now (f1 .entry))) (room (now (v2 .entry)) (now (p2 .entry)) (now (a2 .entry)) (now (e2 .entry)) (now (f2 .entry))) face s d) ⌝ }
+    ensures { λ r. ⌜
+        shown r (meshAfter vertices positions arcs edges faces counters) (roomAfter v1 p1 a1 e1 f1) (roomAfter v2 p2 a2 e2 f2)
+        ≡ replied
+        (Calls.faceSplit (meshBefore vertices positions arcs edges faces counters) (roomBefore v1 p1 a1 e1 f1) (roomBefore v2 p2 a2 e2 f2) face s d)
+        ⌝ }
 {
     let edit = Edit::FaceSplit(face, s, d);
     let call = Call { edit };
@@ -187,7 +200,12 @@ pub extern "C" fn ul_face_poke(
     y: f64,
     z: f64,
 ) -> Reply
-    ensures { λ r. ⌜ shown r (mesh (now (vertices .exit)) (now (positions .exit)) (now (arcs .exit)) (now (edges .exit)) (now (faces .exit)) (now (counters .exit))) (room (now (v1 .exit)) (now (p1 .exit)) (now (a1 .exit)) (now (e1 .exit)) (now (f1 .exit))) (room (now (v2 .exit)) (now (p2 .exit)) (now (a2 .exit)) (now (e2 .exit)) (now (f2 .exit))) ≡ replied (Calls.facePoke (mesh (now (vertices .entry)) (now (positions .entry)) (now (arcs .entry)) (now (edges .entry)) (now (faces .entry)) (now (counters .entry))) (room (now (v1 .entry)) (now (p1 .entry)) (now (a1 .entry)) (now (e1 .entry)) (now (f1 .entry))) (room (now (v2 .entry)) (now (p2 .entry)) (now (a2 .entry)) (now (e2 .entry)) (now (f2 .entry))) face (position x y z)) ⌝ }
+    ensures { λ r. ⌜
+        shown r (meshAfter vertices positions arcs edges faces counters) (roomAfter v1 p1 a1 e1 f1) (roomAfter v2 p2 a2 e2 f2)
+        ≡ replied
+        (Calls.facePoke (meshBefore vertices positions arcs edges faces counters) (roomBefore v1 p1 a1 e1 f1) (roomBefore v2 p2 a2 e2 f2) face
+        (position x y z))
+        ⌝ }
 {
     let position = Position { x, y, z };
     let edit = Edit::FacePoke(face, position);
@@ -237,7 +255,12 @@ pub extern "C" fn ul_face_bridge(
     source: u32,
     destination: u32,
 ) -> Reply
-    ensures { λ r. ⌜ shown r (mesh (now (vertices .exit)) (now (positions .exit)) (now (arcs .exit)) (now (edges .exit)) (now (faces .exit)) (now (counters .exit))) (room (now (v1 .exit)) (now (p1 .exit)) (now (a1 .exit)) (now (e1 .exit)) (now (f1 .exit))) (room (now (v2 .exit)) (now (p2 .exit)) (now (a2 .exit)) (now (e2 .exit)) (now (f2 .exit))) ≡ replied (Calls.faceBridge (mesh (now (vertices .entry)) (now (positions .entry)) (now (arcs .entry)) (now (edges .entry)) (now (faces .entry)) (now (counters .entry))) (room (now (v1 .entry)) (now (p1 .entry)) (now (a1 .entry)) (now (e1 .entry)) (now (f1 .entry))) (room (now (v2 .entry)) (now (p2 .entry)) (now (a2 .entry)) (now (e2 .entry)) (now (f2 .entry))) source destination) ⌝ }
+    ensures { λ r. ⌜
+        shown r (meshAfter vertices positions arcs edges faces counters) (roomAfter v1 p1 a1 e1 f1) (roomAfter v2 p2 a2 e2 f2)
+        ≡ replied
+        (Calls.faceBridge (meshBefore vertices positions arcs edges faces counters) (roomBefore v1 p1 a1 e1 f1)
+        (roomBefore v2 p2 a2 e2 f2) source destination)
+        ⌝ }
 {
     let edit = Edit::FaceBridge(source, destination);
     let call = Call { edit };

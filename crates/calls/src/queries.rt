@@ -8,7 +8,7 @@ use rules::Reply;
 use rules::VertexRow;
 use tables::answers;
 ghost use mathlib.Core.Path.{_≡_};
-ghost use Rattle.rules.specs.Mesh.{mesh};
+ghost use Rattle.rules.specs.Lent.{meshBefore};
 ghost use Rattle.rules.specs.Step.{told};
 ghost use Rattle.rules.specs.Call.{checkSound, checkFinished, faceArity};
 
@@ -21,7 +21,7 @@ pub extern "C" fn ul_check_sound(
     faces: &[FaceRow],
     counters: &[u32; 3],
 ) -> Reply
-    ensures { λ r. ⌜ r ≡ told (checkSound (mesh (now (vertices .entry)) (now (positions .entry)) (now (arcs .entry)) (now (edges .entry)) (now (faces .entry)) (now (counters .entry)))) ⌝ }
+    ensures { λ r. ⌜ r ≡ told (checkSound (meshBefore vertices positions arcs edges faces counters)) ⌝ }
 {
     answers::told(sound::queries::check_sound(vertices, positions, arcs, edges, faces, counters))
 }
@@ -43,7 +43,7 @@ pub extern "C" fn ul_face_arity(
     counters: &[u32; 3],
     face: u32,
 ) -> Reply
-    ensures { λ r. ⌜ r ≡ told (faceArity (mesh (now (vertices .entry)) (now (positions .entry)) (now (arcs .entry)) (now (edges .entry)) (now (faces .entry)) (now (counters .entry))) face) ⌝ }
+    ensures { λ r. ⌜ r ≡ told (faceArity (meshBefore vertices positions arcs edges faces counters) face) ⌝ }
 {
     answers::told(sound::queries::face_arity(
         vertices,

@@ -24,7 +24,7 @@ use Rattle.lists.proofs.Laws.{place-in}
 pub arc-listed : (m : Mesh) (per : List ℕ) (xs : Links) (i x : ℕ) → listOf xs ≡ arcsOf (m .arcs) per → x ≡ getD (listOf xs) i 0 → x ≡ arcAt m per i
 arc-listed m per xs i x e h = h ∙ ap (λ (l : List ℕ). getD l i 0) e ∙ arc-of-pair m per i
 
--- the same, by the list's places
+-- the arc of a pair, by the places of the list of them
 pub arc-at-place : (m : Mesh) (per : List ℕ) (xs : Links) (n i : ℕ) → listOf xs ≡ arcsOf (m .arcs) per → n ≡ length per → i < n → getD (xs .at) i 0 ≡ arcAt m per i
 arc-at-place m per xs n i e en q =
     let many : n ≡ length (listOf xs) = en ∙ sym (ap length e ∙ arcs-length (m .arcs) per) in

@@ -26,7 +26,9 @@ ghost use Rattle.checks.specs.Between.{oneOf, otherOf, Told, Cornered};
 
 // Source and destination of the one arc, then of the other.
 pub fn corners_of(arcs: &[ArcRow], x: u32, y: u32) -> [u32; 4]
-    ensures { λ r. ⌜ ((vs : Table) (ps : List (List Float)) (es fs : Table) (ks : List ℕ) → r ≡ Edit.corners (mesh vs ps (now (arcs .entry)) es fs ks) x y) ⌝ }
+    ensures { λ r. ⌜
+        ((vs : Table) (ps : List (List Float)) (es fs : Table) (ks : List ℕ) → r ≡ Edit.corners (mesh vs ps (now (arcs .entry)) es fs ks) x y)
+        ⌝ }
 {
     let a = rows::cell6(arcs, x, 0);
     let b = rows::cell6(arcs, x, 1);
@@ -77,7 +79,7 @@ fn arcs_between(arcs: &[ArcRow], four: [u32; 4]) -> Between
     Between { x, y, per, found }
 }
 
-// The same with the corners in any case.
+// Those arcs, and the corners of whatever was found: where an arc is missing, the corners that the definition names.
 pub fn corners_between(arcs: &[ArcRow], four: [u32; 4]) -> Between
     ensures { λ r. ⌜ Told (now (arcs .entry)) four r × Cornered (now (arcs .entry)) r ⌝ }
 {
@@ -99,7 +101,10 @@ pub fn corners_between(arcs: &[ArcRow], four: [u32; 4]) -> Between
 
 // Whether an existing arc among the pairs of four corners has a face: xs are their arcs.
 pub fn corners_faced(arcs: &[ArcRow], xs: Links) -> bool
-    ensures { λ r. ⌜ ((vs : Table) (ps : List (List Float)) (es fs : Table) (ks four : List ℕ) → listOf xs ≡ arcsOf (now (arcs .entry)) four → r ≡ someBelow (hasFace (mesh vs ps (now (arcs .entry)) es fs ks) four) 4) ⌝ }
+    ensures { λ r. ⌜
+        ((vs : Table) (ps : List (List Float)) (es fs : Table) (ks four : List ℕ) → listOf xs ≡ arcsOf (now (arcs .entry)) four →
+        r ≡ someBelow (hasFace (mesh vs ps (now (arcs .entry)) es fs ks) four) 4)
+        ⌝ }
 {
     let mut i: usize = 0;
     while i < 4 {
@@ -113,9 +118,14 @@ pub fn corners_faced(arcs: &[ArcRow], xs: Links) -> bool
 
 // Those of an arc bridge, and then of the insert of its corners: xs are the arcs of their pairs.
 pub fn arc_bridge_checks_by(arcs: &[ArcRow], per: Links, xs: Links, x: u32, y: u32) -> Answer
-    requires { ⌜ ((vs : Table) (ps : List (List Float)) (es fs : Table) (ks : List ℕ) → listOf per ≡ Edit.corners (mesh vs ps (now arcs) es fs ks) x y) ⌝ }
+    requires { ⌜
+        ((vs : Table) (ps : List (List Float)) (es fs : Table) (ks : List ℕ) → listOf per ≡ Edit.corners (mesh vs ps (now arcs) es fs ks) x y)
+        ⌝ }
     requires { ⌜ listOf xs ≡ arcsOf (now arcs) (listOf per) ⌝ }
-    ensures { λ r. ⌜ ((vs : Table) (ps : List (List Float)) (es fs : Table) (ks : List ℕ) → r ≡ Edit.arcBridgeChecks (mesh vs ps (now (arcs .entry)) es fs ks) x y) ⌝ }
+    ensures { λ r. ⌜
+        ((vs : Table) (ps : List (List Float)) (es fs : Table) (ks : List ℕ) →
+        r ≡ Edit.arcBridgeChecks (mesh vs ps (now (arcs .entry)) es fs ks) x y)
+        ⌝ }
 {
     if x == 0 {
         return Answer::Refused(Refusal::TopologyNotFound);
@@ -129,9 +139,12 @@ pub fn arc_bridge_checks_by(arcs: &[ArcRow], per: Links, xs: Links, x: u32, y: u
     insert::insert_checks_by(arcs, xs, per, per)
 }
 
-// The same for the arcs between four vertices.
+// Rule 8's checks of the arcs (a,b) and (c,d), given by four vertices.
 pub fn arc_bridge_checks(arcs: &[ArcRow], four: [u32; 4]) -> Answer
-    ensures { λ r. ⌜ ((vs : Table) (ps : List (List Float)) (es fs : Table) (ks : List ℕ) → r ≡ Edit.arcBridgeChecks (mesh vs ps (now (arcs .entry)) es fs ks) (oneOf (now (arcs .entry)) four) (otherOf (now (arcs .entry)) four)) ⌝ }
+    ensures { λ r. ⌜
+        ((vs : Table) (ps : List (List Float)) (es fs : Table) (ks : List ℕ) →
+        r ≡ Edit.arcBridgeChecks (mesh vs ps (now (arcs .entry)) es fs ks) (oneOf (now (arcs .entry)) four) (otherOf (now (arcs .entry)) four))
+        ⌝ }
 {
     let told = arcs_between(arcs, four);
     let x = told.x;
@@ -147,7 +160,10 @@ pub fn arc_bridge_checks(arcs: &[ArcRow], four: [u32; 4]) -> Answer
 
 // Those of a bridge of two faces.
 pub fn bridge_checks(arcs: &[ArcRow], faces: &[FaceRow], f: u32, g: u32) -> Answer
-    ensures { λ r. ⌜ ((vs : Table) (ps : List (List Float)) (es : Table) (ks : List ℕ) → r ≡ Edit.bridgeChecks (mesh vs ps (now (arcs .entry)) es (now (faces .entry)) ks) f g) ⌝ }
+    ensures { λ r. ⌜
+        ((vs : Table) (ps : List (List Float)) (es : Table) (ks : List ℕ) →
+        r ≡ Edit.bridgeChecks (mesh vs ps (now (arcs .entry)) es (now (faces .entry)) ks) f g)
+        ⌝ }
 {
     if f == 0 {
         return Answer::Refused(Refusal::TopologyNotFound);

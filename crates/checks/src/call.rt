@@ -28,6 +28,7 @@ ghost use lib.Ieee.{Float};
 ghost use Rattle.rules.specs.declared.Edit.the-variants.{FaceInsert};
 ghost use Rattle.rules.specs.Table.{Table};
 ghost use Rattle.rules.specs.Mesh.{mesh, listOf, findKey};
+ghost use Rattle.rules.specs.Lent.{unlent, meshBefore};
 ghost use Rattle.rules.specs.Call as Call;
 ghost use Rattle.checks.specs.Most.{AtMost, most};
 
@@ -54,7 +55,10 @@ pub fn given(edit: Edit, keys: &[u32]) -> bool
 
 // The arc from the vertex with the key s to the one with the key d.
 pub fn arc_by_keys(vertices: &[VertexRow], arcs: &[ArcRow], s: u32, d: u32) -> u32
-    ensures { λ r. ⌜ ((ps : List (List Float)) (es fs : Table) (ks : List ℕ) → r ≡ Call.arcByKeys (mesh (now (vertices .entry)) ps (now (arcs .entry)) es fs ks) s d) ⌝ }
+    ensures { λ r. ⌜
+        ((ps : List (List Float)) (es fs : Table) (ks : List ℕ) →
+        r ≡ Call.arcByKeys (mesh (now (vertices .entry)) ps (now (arcs .entry)) es fs ks) s d)
+        ⌝ }
 {
     let a = rows::find_key2(vertices, s);
     let b = rows::find_key2(vertices, d);
@@ -63,7 +67,10 @@ pub fn arc_by_keys(vertices: &[VertexRow], arcs: &[ArcRow], s: u32, d: u32) -> u
 
 // The vertices with four keys.
 pub fn four_by_keys(vertices: &[VertexRow], a: u32, b: u32, c: u32, d: u32) -> [u32; 4]
-    ensures { λ r. ⌜ r ≡ findKey (now (vertices .entry)) a ∷ findKey (now (vertices .entry)) b ∷ findKey (now (vertices .entry)) c ∷ findKey (now (vertices .entry)) d ∷ [] ⌝ }
+    ensures { λ r. ⌜
+        r ≡ findKey (now (vertices .entry)) a ∷ findKey (now (vertices .entry)) b ∷ findKey (now (vertices .entry)) c ∷ findKey
+        (now (vertices .entry)) d ∷ []
+        ⌝ }
 {
     let first = rows::find_key2(vertices, a);
     let second = rows::find_key2(vertices, b);
@@ -74,7 +81,10 @@ pub fn four_by_keys(vertices: &[VertexRow], a: u32, b: u32, c: u32, d: u32) -> [
 
 // The vertices with these keys, of which there are at most 64.
 fn by_keys(vertices: &[VertexRow], keys: &[u32]) -> Links
-    ensures { λ r. ⌜ (length (now (keys .entry)) ≤ 64 → (ps : List (List Float)) (ar es fs : Table) (ks : List ℕ) → listOf r ≡ Call.byKeys (mesh (now (vertices .entry)) ps ar es fs ks) (now (keys .entry))) ⌝ }
+    ensures { λ r. ⌜
+        (length (now (keys .entry)) ≤ 64 → (ps : List (List Float)) (ar es fs : Table) (ks : List ℕ) →
+        listOf r ≡ Call.byKeys (mesh (now (vertices .entry)) ps ar es fs ks) (now (keys .entry)))
+        ⌝ }
 {
     lists::vertices_by_keys(vertices, lists::from_keys(keys))
 }
@@ -87,7 +97,10 @@ pub fn checks_of(
     edit: Edit,
     keys: &[u32],
 ) -> Answer
-    ensures { λ r. ⌜ (((mark : ℕ) → edit ≡ FaceInsert mark → length (now (keys .entry)) ≤ 64) → (ps : List (List Float)) (es : Table) (ks : List ℕ) → r ≡ Call.checks (mesh (now (vertices .entry)) ps (now (arcs .entry)) es (now (faces .entry)) ks) edit (now (keys .entry))) ⌝ }
+    ensures { λ r. ⌜
+        (((mark : ℕ) → edit ≡ FaceInsert mark → length (now (keys .entry)) ≤ 64) → (ps : List (List Float)) (es : Table) (ks : List ℕ) →
+        r ≡ Call.checks (mesh (now (vertices .entry)) ps (now (arcs .entry)) es (now (faces .entry)) ks) edit (now (keys .entry)))
+        ⌝ }
 {
     match edit {
         Edit::VertexInsert(_) => Answer::Done,
@@ -126,7 +139,7 @@ pub fn moves_finite(
     faces: &[FaceRow],
     edit: Edit,
 ) -> bool
-    ensures { λ r. ⌜ ((es : Table) (ks : List ℕ) → r ≡ Call.movesFinite (mesh (now (vertices .entry)) (now (positions .entry)) (now (arcs .entry)) es (now (faces .entry)) ks) edit) ⌝ }
+    ensures { λ r. ⌜ ((es : Table) (ks : List ℕ) → r ≡ Call.movesFinite (meshBefore vertices positions arcs (unlent es) faces (unlent ks)) edit) ⌝ }
 {
     match edit {
         Edit::VertexInsert(_) => true,
@@ -174,7 +187,10 @@ fn needs(vertices: usize, edges: usize, faces: usize, facekeys: usize) -> Need
 
 // An insert: one edge for each pair without an arc, one face.
 fn insert_need(arcs: &[ArcRow], per: Links) -> Need
-    ensures { λ r. ⌜ ((vs : Table) (ps : List (List Float)) (es fs : Table) (ks : List ℕ) → Call.needs (r .vertices) (r .edges) (r .faces) (r .facekeys) ≡ Call.insertNeed (mesh vs ps (now (arcs .entry)) es fs ks) (listOf per)) ⌝ }
+    ensures { λ r. ⌜
+        ((vs : Table) (ps : List (List Float)) (es fs : Table) (ks : List ℕ) →
+        Call.needs (r .vertices) (r .edges) (r .faces) (r .facekeys) ≡ Call.insertNeed (mesh vs ps (now (arcs .entry)) es fs ks) (listOf per))
+        ⌝ }
 {
     needs(0, insert::pairs_without(arcs, per), 1, 1)
 }
@@ -182,7 +198,13 @@ fn insert_need(arcs: &[ArcRow], per: Links) -> Need
 // What an edit needs at most, told without a search among the arcs: a face insert one edge for each key, a split one, an arc bridge four; any
 // other edit what it needs.
 pub fn most_of(arcs: &[ArcRow], faces: &[FaceRow], edit: Edit, keys: &[u32]) -> Need
-    ensures { λ r. ⌜ ((vs : Table) (ps : List (List Float)) (es : Table) (ks : List ℕ) → (Call.needs (r .vertices) (r .edges) (r .faces) (r .facekeys) ≡ most (mesh vs ps (now (arcs .entry)) es (now (faces .entry)) ks) edit (now (keys .entry))) × AtMost (Call.need (mesh vs ps (now (arcs .entry)) es (now (faces .entry)) ks) edit (now (keys .entry))) (Call.needs (r .vertices) (r .edges) (r .faces) (r .facekeys))) ⌝ }
+    ensures { λ r. ⌜
+        ((vs : Table) (ps : List (List Float)) (es : Table) (ks : List ℕ) →
+        (Call.needs (r .vertices) (r .edges) (r .faces) (r .facekeys)
+        ≡ most (mesh vs ps (now (arcs .entry)) es (now (faces .entry)) ks) edit (now (keys .entry)))
+        × AtMost (Call.need (mesh vs ps (now (arcs .entry)) es (now (faces .entry)) ks) edit (now (keys .entry)))
+        (Call.needs (r .vertices) (r .edges) (r .faces) (r .facekeys)))
+        ⌝ }
 {
     match edit {
         Edit::VertexInsert(_) => needs(1, 0, 0, 0),
@@ -214,7 +236,11 @@ pub fn need_of(
     edit: Edit,
     keys: &[u32],
 ) -> Need
-    ensures { λ r. ⌜ (((mark : ℕ) → edit ≡ FaceInsert mark → length (now (keys .entry)) ≤ 64) → (ps : List (List Float)) (es : Table) (ks : List ℕ) → Call.needs (r .vertices) (r .edges) (r .faces) (r .facekeys) ≡ Call.need (mesh (now (vertices .entry)) ps (now (arcs .entry)) es (now (faces .entry)) ks) edit (now (keys .entry))) ⌝ }
+    ensures { λ r. ⌜
+        (((mark : ℕ) → edit ≡ FaceInsert mark → length (now (keys .entry)) ≤ 64) → (ps : List (List Float)) (es : Table) (ks : List ℕ) →
+        Call.needs (r .vertices) (r .edges) (r .faces) (r .facekeys)
+        ≡ Call.need (mesh (now (vertices .entry)) ps (now (arcs .entry)) es (now (faces .entry)) ks) edit (now (keys .entry)))
+        ⌝ }
 {
     match edit {
         Edit::FaceInsert(_) => insert_need(arcs, by_keys(vertices, keys)),
@@ -232,7 +258,11 @@ pub fn need_of(
 
 // Free rows are not fewer than the need.
 pub fn rows_for(vertices: &[VertexRow], edges: &[EdgeRow], faces: &[FaceRow], need: Need) -> bool
-    ensures { λ r. ⌜ ((ps : List (List Float)) (ar : Table) (ks : List ℕ) → r ≡ Call.rowsFor (mesh (now (vertices .entry)) ps ar (now (edges .entry)) (now (faces .entry)) ks) (Call.needs (need .vertices) (need .edges) (need .faces) (need .facekeys))) ⌝ }
+    ensures { λ r. ⌜
+        ((ps : List (List Float)) (ar : Table) (ks : List ℕ) →
+        r ≡ Call.rowsFor (mesh (now (vertices .entry)) ps ar (now (edges .entry)) (now (faces .entry)) ks)
+        (Call.needs (need .vertices) (need .edges) (need .faces) (need .facekeys)))
+        ⌝ }
 {
     if !free::enough2(vertices, need.vertices) {
         return false;
@@ -258,7 +288,10 @@ fn keys_left(next: u32, many: usize) -> bool
 
 // No key above 4,294,967,294 is needed.
 pub fn keys_for(counters: &[u32; 3], need: Need) -> bool
-    ensures { λ r. ⌜ ((vs : Table) (ps : List (List Float)) (ar es fs : Table) → r ≡ Call.keysFor (mesh vs ps ar es fs (now (counters .entry))) (Call.needs (need .vertices) (need .edges) (need .faces) (need .facekeys))) ⌝ }
+    ensures { λ r. ⌜
+        ((vs : Table) (ps : List (List Float)) (ar es fs : Table) →
+        r ≡ Call.keysFor (mesh vs ps ar es fs (now (counters .entry))) (Call.needs (need .vertices) (need .edges) (need .faces) (need .facekeys)))
+        ⌝ }
 {
     if !keys_left(counters[0], need.vertices) {
         return false;
@@ -277,7 +310,11 @@ pub fn room_for(
     counters: &[u32; 3],
     need: Need,
 ) -> bool
-    ensures { λ r. ⌜ ((ps : List (List Float)) (ar : Table) → r ≡ Call.roomFor (mesh (now (vertices .entry)) ps ar (now (edges .entry)) (now (faces .entry)) (now (counters .entry))) (Call.needs (need .vertices) (need .edges) (need .faces) (need .facekeys))) ⌝ }
+    ensures { λ r. ⌜
+        ((ps : List (List Float)) (ar : Table) →
+        r ≡ Call.roomFor (meshBefore vertices (unlent ps) (unlent ar) edges faces counters)
+        (Call.needs (need .vertices) (need .edges) (need .faces) (need .facekeys)))
+        ⌝ }
 {
     if !rows_for(vertices, edges, faces, need) {
         return false;

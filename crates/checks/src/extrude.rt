@@ -31,7 +31,10 @@ pub fn known(l: u32) -> Answer
 
 // An arc with a face is 5.
 pub fn arc_extrude_checks(arcs: &[ArcRow], x: u32) -> Answer
-    ensures { λ r. ⌜ ((vs : Table) (ps : List (List Float)) (es fs : Table) (ks : List ℕ) → r ≡ Extrude.arcExtrudeChecks (mesh vs ps (now (arcs .entry)) es fs ks) x) ⌝ }
+    ensures { λ r. ⌜
+        ((vs : Table) (ps : List (List Float)) (es fs : Table) (ks : List ℕ) →
+        r ≡ Extrude.arcExtrudeChecks (mesh vs ps (now (arcs .entry)) es fs ks) x)
+        ⌝ }
 {
     if x == 0 {
         return Answer::Refused(Refusal::TopologyNotFound);
@@ -46,14 +49,18 @@ pub fn arc_extrude_checks(arcs: &[ArcRow], x: u32) -> Answer
 
 // Whether the vertex v, moved, has finite coordinates.
 pub fn one_finite(positions: &[PositionRow], mv: Move, v: u32) -> bool
-    ensures { λ r. ⌜ ((vs ar es fs : Table) (ks : List ℕ) → r ≡ finitePosition (Extrude.movedPosition (mesh vs (now (positions .entry)) ar es fs ks) mv v)) ⌝ }
+    ensures { λ r. ⌜
+        ((vs ar es fs : Table) (ks : List ℕ) → r ≡ finitePosition (Extrude.movedPosition (mesh vs (now (positions .entry)) ar es fs ks) mv v))
+        ⌝ }
 {
     points::finite_position(points::moved(points::position_at(positions, v), mv))
 }
 
 // Whether all vertices of a list, moved, have finite coordinates.
 pub fn moved_finite(positions: &[PositionRow], mv: Move, list: Links) -> bool
-    ensures { λ r. ⌜ ((vs ar es fs : Table) (ks : List ℕ) → r ≡ Extrude.movedFinite (mesh vs (now (positions .entry)) ar es fs ks) mv (listOf list)) ⌝ }
+    ensures { λ r. ⌜
+        ((vs ar es fs : Table) (ks : List ℕ) → r ≡ Extrude.movedFinite (mesh vs (now (positions .entry)) ar es fs ks) mv (listOf list))
+        ⌝ }
 {
     let n = lists::size(list);
     let mut i: usize = 0;

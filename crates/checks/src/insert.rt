@@ -36,14 +36,21 @@ pub fn faced(arcs: &[ArcRow], x: u32) -> bool
 
 // An existing arc with a face, by the arcs of the perimeter's pairs.
 pub fn has_face(arcs: &[ArcRow], xs: Links, i: usize) -> bool
-    ensures { λ r. ⌜ ((vs : Table) (ps : List (List Float)) (es fs : Table) (ks per : List ℕ) → listOf xs ≡ arcsOf (now (arcs .entry)) per → r ≡ Insert.hasFace (mesh vs ps (now (arcs .entry)) es fs ks) per i) ⌝ }
+    ensures { λ r. ⌜
+        ((vs : Table) (ps : List (List Float)) (es fs : Table) (ks per : List ℕ) → listOf xs ≡ arcsOf (now (arcs .entry)) per →
+        r ≡ Insert.hasFace (mesh vs ps (now (arcs .entry)) es fs ks) per i)
+        ⌝ }
 {
     faced(arcs, lists::item(xs, i))
 }
 
 // An existing arc x whose follower w is absent, and whose next leads to a vertex of the perimeter: to one of the first n of these.
 fn leads_back(arcs: &[ArcRow], x: u32, w: u32, at: &[u32; RING], n: usize) -> bool
-    ensures { λ r. ⌜ r ≡ (not (eqb x 0) && (eqb w 0 && (not (eqb (cell (now (arcs .entry)) x 2) 0) && has (take n (now (at .entry))) (cell (now (arcs .entry)) (cell (now (arcs .entry)) x 2) 1)))) ⌝ }
+    ensures { λ r. ⌜
+        r ≡ (not (eqb x 0)
+        && (eqb w 0 && (not (eqb (cell (now (arcs .entry)) x 2) 0)
+        && has (take n (now (at .entry))) (cell (now (arcs .entry)) (cell (now (arcs .entry)) x 2) 1))))
+        ⌝ }
 {
     if x == 0 {
         return false;
@@ -61,7 +68,10 @@ fn leads_back(arcs: &[ArcRow], x: u32, w: u32, at: &[u32; RING], n: usize) -> bo
 // Whether some pair has either. xs are the arcs of the perimeter's pairs.
 pub fn conflict_by(arcs: &[ArcRow], xs: Links, per: Links) -> bool
     requires { ⌜ listOf xs ≡ arcsOf (now arcs) (listOf per) ⌝ }
-    ensures { λ r. ⌜ ((vs : Table) (ps : List (List Float)) (es fs : Table) (ks : List ℕ) → r ≡ Insert.conflict (mesh vs ps (now (arcs .entry)) es fs ks) (listOf per)) ⌝ }
+    ensures { λ r. ⌜
+        ((vs : Table) (ps : List (List Float)) (es fs : Table) (ks : List ℕ) →
+        r ≡ Insert.conflict (mesh vs ps (now (arcs .entry)) es fs ks) (listOf per))
+        ⌝ }
 {
     let n = lists::size(per);
     lists::known_few(per);
@@ -84,7 +94,9 @@ pub fn conflict_by(arcs: &[ArcRow], xs: Links, per: Links) -> bool
 
 // The checks before any arc is looked for. What names the vertices is a list of keys, or of links.
 fn named(names: Links, per: Links) -> Answer
-    ensures { λ r. ⌜ r ≡ cond (Insert.malformed (listOf names)) (Refused TopologyMalformed) (cond (has (listOf per) 0) (Refused TopologyNotFound) Done) ⌝ }
+    ensures { λ r. ⌜
+        r ≡ cond (Insert.malformed (listOf names)) (Refused TopologyMalformed) (cond (has (listOf per) 0) (Refused TopologyNotFound) Done)
+        ⌝ }
 {
     let malformed = lists::is_malformed(names);
     let unknown = lists::has_from(per, 0, 0);
@@ -100,7 +112,10 @@ fn named(names: Links, per: Links) -> Answer
 // All of them, in order. xs are the arcs of the perimeter's pairs.
 pub fn insert_checks_by(arcs: &[ArcRow], xs: Links, names: Links, per: Links) -> Answer
     requires { ⌜ listOf xs ≡ arcsOf (now arcs) (listOf per) ⌝ }
-    ensures { λ r. ⌜ ((vs : Table) (ps : List (List Float)) (es fs : Table) (ks : List ℕ) → r ≡ Insert.insertChecks (mesh vs ps (now (arcs .entry)) es fs ks) (listOf names) (listOf per)) ⌝ }
+    ensures { λ r. ⌜
+        ((vs : Table) (ps : List (List Float)) (es fs : Table) (ks : List ℕ) →
+        r ≡ Insert.insertChecks (mesh vs ps (now (arcs .entry)) es fs ks) (listOf names) (listOf per))
+        ⌝ }
 {
     let told = named(names, per);
     if !answers::accepted(told) {
@@ -112,9 +127,12 @@ pub fn insert_checks_by(arcs: &[ArcRow], xs: Links, names: Links, per: Links) ->
     Answer::Done
 }
 
-// The same where the arcs are still to be found: that waits for the checks before.
+// Rule 5's checks. The perimeter's arcs are looked for only where the checks before the conflicts have passed.
 pub fn insert_checks(arcs: &[ArcRow], names: Links, per: Links) -> Answer
-    ensures { λ r. ⌜ ((vs : Table) (ps : List (List Float)) (es fs : Table) (ks : List ℕ) → r ≡ Insert.insertChecks (mesh vs ps (now (arcs .entry)) es fs ks) (listOf names) (listOf per)) ⌝ }
+    ensures { λ r. ⌜
+        ((vs : Table) (ps : List (List Float)) (es fs : Table) (ks : List ℕ) →
+        r ≡ Insert.insertChecks (mesh vs ps (now (arcs .entry)) es fs ks) (listOf names) (listOf per))
+        ⌝ }
 {
     let told = named(names, per);
     if !answers::accepted(told) {
@@ -142,7 +160,10 @@ pub fn one_if_none(x: u32) -> usize
 
 // How many pairs have no arc: each needs an edge.
 pub fn pairs_without(arcs: &[ArcRow], per: Links) -> usize
-    ensures { λ r. ⌜ ((vs : Table) (ps : List (List Float)) (es fs : Table) (ks : List ℕ) → r ≡ pairsWithout (mesh vs ps (now (arcs .entry)) es fs ks) (listOf per)) ⌝ }
+    ensures { λ r. ⌜
+        ((vs : Table) (ps : List (List Float)) (es fs : Table) (ks : List ℕ) →
+        r ≡ pairsWithout (mesh vs ps (now (arcs .entry)) es fs ks) (listOf per))
+        ⌝ }
 {
     let n = lists::size(per);
     lists::known_few(per);

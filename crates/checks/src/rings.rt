@@ -15,7 +15,10 @@ ghost use Rattle.rules.specs.Link as Link;
 
 // The arcs of the face f.
 pub fn ring_of(arcs: &[ArcRow], faces: &[FaceRow], f: u32) -> Links
-    ensures { λ r. ⌜ ((vs : Table) (ps : List (List Float)) (es : Table) (ks : List ℕ) → r ≡ linksOf (Link.ring (mesh vs ps (now (arcs .entry)) es (now (faces .entry)) ks) f)) ⌝ }
+    ensures { λ r. ⌜
+        ((vs : Table) (ps : List (List Float)) (es : Table) (ks : List ℕ) →
+        r ≡ linksOf (Link.ring (mesh vs ps (now (arcs .entry)) es (now (faces .entry)) ks) f))
+        ⌝ }
 {
     let walk = walks::rings::ring(arcs, rows::cell3(faces, f, 1));
     walk.links
@@ -23,14 +26,20 @@ pub fn ring_of(arcs: &[ArcRow], faces: &[FaceRow], f: u32) -> Links
 
 // How many arcs it has.
 pub fn arity_of(arcs: &[ArcRow], faces: &[FaceRow], f: u32) -> usize
-    ensures { λ r. ⌜ ((vs : Table) (ps : List (List Float)) (es : Table) (ks : List ℕ) → r ≡ length (Link.ring (mesh vs ps (now (arcs .entry)) es (now (faces .entry)) ks) f)) ⌝ }
+    ensures { λ r. ⌜
+        ((vs : Table) (ps : List (List Float)) (es : Table) (ks : List ℕ) →
+        r ≡ length (Link.ring (mesh vs ps (now (arcs .entry)) es (now (faces .entry)) ks) f))
+        ⌝ }
 {
     lists::size(ring_of(arcs, faces, f))
 }
 
 // Its vertices: the arcs' destinations in that order.
 pub fn vertices_of(arcs: &[ArcRow], faces: &[FaceRow], f: u32) -> Links
-    ensures { λ r. ⌜ ((vs : Table) (ps : List (List Float)) (es : Table) (ks : List ℕ) → r ≡ linksOf (Link.ringVertices (mesh vs ps (now (arcs .entry)) es (now (faces .entry)) ks) f)) ⌝ }
+    ensures { λ r. ⌜
+        ((vs : Table) (ps : List (List Float)) (es : Table) (ks : List ℕ) →
+        r ≡ linksOf (Link.ringVertices (mesh vs ps (now (arcs .entry)) es (now (faces .entry)) ks) f))
+        ⌝ }
 {
     walks::rings::ring_vertices(arcs, ring_of(arcs, faces, f))
 }

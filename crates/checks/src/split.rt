@@ -104,7 +104,10 @@ fn place_of(list: Links, x: u32) -> usize
 
 // The vertices of the face f from s to d.
 pub fn half(arcs: &[ArcRow], faces: &[FaceRow], f: u32, s: u32, d: u32) -> Links
-    ensures { λ r. ⌜ ((vs : Table) (ps : List (List Float)) (es : Table) (ks : List ℕ) → r ≡ linksOf (Edit.half (mesh vs ps (now (arcs .entry)) es (now (faces .entry)) ks) f s d)) ⌝ }
+    ensures { λ r. ⌜
+        ((vs : Table) (ps : List (List Float)) (es : Table) (ks : List ℕ) →
+        r ≡ linksOf (Edit.half (mesh vs ps (now (arcs .entry)) es (now (faces .entry)) ks) f s d))
+        ⌝ }
 {
     let points = rings::vertices_of(arcs, faces, f);
     stretch(points, place_of(points, s), place_of(points, d))
@@ -114,7 +117,11 @@ pub fn half(arcs: &[ArcRow], faces: &[FaceRow], f: u32, s: u32, d: u32) -> Links
 
 // An arc of pair i that another face than f holds, by the arcs of the pairs.
 fn other_holds(arcs: &[ArcRow], f: u32, xs: Links, i: usize) -> bool
-    ensures { λ r. ⌜ ((vs : Table) (ps : List (List Float)) (es fs : Table) (ks per : List ℕ) → listOf xs ≡ arcsOf (now (arcs .entry)) per → r ≡ (hasFace (mesh vs ps (now (arcs .entry)) es fs ks) per i && not (eqb (face (mesh vs ps (now (arcs .entry)) es fs ks) (arcAt (mesh vs ps (now (arcs .entry)) es fs ks) per i)) f))) ⌝ }
+    ensures { λ r. ⌜
+        ((vs : Table) (ps : List (List Float)) (es fs : Table) (ks per : List ℕ) → listOf xs ≡ arcsOf (now (arcs .entry)) per →
+        r ≡ (hasFace (mesh vs ps (now (arcs .entry)) es fs ks) per i
+        && not (eqb (face (mesh vs ps (now (arcs .entry)) es fs ks) (arcAt (mesh vs ps (now (arcs .entry)) es fs ks) per i)) f)))
+        ⌝ }
 {
     if !insert::has_face(arcs, xs, i) {
         return false;
@@ -124,7 +131,10 @@ fn other_holds(arcs: &[ArcRow], f: u32, xs: Links, i: usize) -> bool
 
 // Whether some pair has one.
 pub fn held_by_other(arcs: &[ArcRow], f: u32, per: Links) -> bool
-    ensures { λ r. ⌜ ((vs : Table) (ps : List (List Float)) (es fs : Table) (ks : List ℕ) → r ≡ Edit.heldByOther (mesh vs ps (now (arcs .entry)) es fs ks) f (listOf per)) ⌝ }
+    ensures { λ r. ⌜
+        ((vs : Table) (ps : List (List Float)) (es fs : Table) (ks : List ℕ) →
+        r ≡ Edit.heldByOther (mesh vs ps (now (arcs .entry)) es fs ks) f (listOf per))
+        ⌝ }
 {
     let n = lists::size(per);
     lists::known_few(per);
@@ -141,7 +151,10 @@ pub fn held_by_other(arcs: &[ArcRow], f: u32, per: Links) -> bool
 
 // All of them, in order.
 pub fn split_checks(arcs: &[ArcRow], faces: &[FaceRow], f: u32, s: u32, d: u32) -> Answer
-    ensures { λ r. ⌜ ((vs : Table) (ps : List (List Float)) (es : Table) (ks : List ℕ) → r ≡ Edit.splitChecks (mesh vs ps (now (arcs .entry)) es (now (faces .entry)) ks) f s d) ⌝ }
+    ensures { λ r. ⌜
+        ((vs : Table) (ps : List (List Float)) (es : Table) (ks : List ℕ) →
+        r ≡ Edit.splitChecks (mesh vs ps (now (arcs .entry)) es (now (faces .entry)) ks) f s d)
+        ⌝ }
 {
     if f == 0 {
         return Answer::Refused(Refusal::TopologyNotFound);

@@ -18,6 +18,7 @@ ghost use lib.Ieee.{Float};
 ghost use Rattle.rules.specs.declared.Edit.the-variants.{VertexInsert, FaceInsert, FaceRemove, FaceSplit, FacePoke, FaceBridge, FaceExtrude, ArcBridge, ArcExtrude};
 ghost use Rattle.rules.specs.Table.{Table};
 ghost use Rattle.rules.specs.Mesh.{mesh};
+ghost use Rattle.rules.specs.Lent.{unlent, meshBefore, meshAfter};
 ghost use Rattle.rules.specs.Step.{step};
 ghost use Rattle.rules.specs.Call as Call;
 ghost use Rattle.edits.specs.Places.{Kept};
@@ -28,7 +29,12 @@ fn vertex_insert(
     counters: &mut [u32; 3],
     position: Position,
 ) -> Answer
-    ensures { λ r. ⌜ ((a e f : Table) (ks : List ℕ) → step (mesh (now (vertices .exit)) (now (positions .exit)) a e f (now (counters .exit))) r ≡ Call.work (mesh (now (vertices .entry)) (now (positions .entry)) a e f (now (counters .entry))) (VertexInsert position) ks) × Kept (now (vertices .entry)) (now (positions .entry)) (now (positions .exit)) ⌝ }
+    ensures { λ r. ⌜
+        ((a e f : Table) (ks : List ℕ) →
+        step (mesh (now (vertices .exit)) (now (positions .exit)) a e f (now (counters .exit))) r
+        ≡ Call.work (mesh (now (vertices .entry)) (now (positions .entry)) a e f (now (counters .entry))) (VertexInsert position) ks)
+        × Kept (now (vertices .entry)) (now (positions .entry)) (now (positions .exit))
+        ⌝ }
 {
     let key = counters[0];
     edges::vertex::new_vertex(vertices, positions, counters, 0, position);
@@ -49,7 +55,11 @@ fn face_insert(
 ) -> Answer
     requires { ⌜ (length (now past) ≡ length (now arcs)) × (length (now pastedges) ≡ length (now edges)) ⌝ }
     requires { ⌜ length (now keys) ≤ 64 ⌝ }
-    ensures { λ r. ⌜ ((p : List (List Float)) → step (mesh (now (vertices .exit)) p (now (arcs .exit)) (now (edges .exit)) (now (faces .exit)) (now (counters .exit))) r ≡ Call.work (mesh (now (vertices .entry)) p (now (arcs .entry)) (now (edges .entry)) (now (faces .entry)) (now (counters .entry))) (FaceInsert mark) (now (keys .entry))) ⌝ }
+    ensures { λ r. ⌜
+        ((p : List (List Float)) →
+        step (meshAfter vertices (unlent p) arcs edges faces counters) r
+        ≡ Call.work (meshBefore vertices (unlent p) arcs edges faces counters) (FaceInsert mark) (now (keys .entry)))
+        ⌝ }
 {
     let names = lists::from_keys(keys);
     let per = lists::vertices_by_keys(vertices, names);
@@ -69,7 +79,11 @@ fn face_insert(
 }
 
 fn face_remove(arcs: &mut [ArcRow], faces: &mut [FaceRow], face: u32) -> Answer
-    ensures { λ r. ⌜ ((v : Table) (p : List (List Float)) (e : Table) (k ks : List ℕ) → step (mesh v p (now (arcs .exit)) e (now (faces .exit)) k) r ≡ Call.work (mesh v p (now (arcs .entry)) e (now (faces .entry)) k) (FaceRemove face) ks) ⌝ }
+    ensures { λ r. ⌜
+        ((v : Table) (p : List (List Float)) (e : Table) (k ks : List ℕ) →
+        step (mesh v p (now (arcs .exit)) e (now (faces .exit)) k) r
+        ≡ Call.work (mesh v p (now (arcs .entry)) e (now (faces .entry)) k) (FaceRemove face) ks)
+        ⌝ }
 {
     let f = rows::find_key3(faces, face);
     let mark = rows::cell3(faces, f, 2);
@@ -90,7 +104,11 @@ fn face_split(
     d: u32,
 ) -> Answer
     requires { ⌜ (length (now past) ≡ length (now arcs)) × (length (now pastedges) ≡ length (now edges)) ⌝ }
-    ensures { λ r. ⌜ ((p : List (List Float)) (ks : List ℕ) → step (mesh (now (vertices .exit)) p (now (arcs .exit)) (now (edges .exit)) (now (faces .exit)) (now (counters .exit))) r ≡ Call.work (mesh (now (vertices .entry)) p (now (arcs .entry)) (now (edges .entry)) (now (faces .entry)) (now (counters .entry))) (FaceSplit face s d) ks) ⌝ }
+    ensures { λ r. ⌜
+        ((p : List (List Float)) (ks : List ℕ) →
+        step (meshAfter vertices (unlent p) arcs edges faces counters) r
+        ≡ Call.work (meshBefore vertices (unlent p) arcs edges faces counters) (FaceSplit face s d) ks)
+        ⌝ }
 {
     let f = rows::find_key3(faces, face);
     let from = rows::find_key2(vertices, s);
@@ -122,7 +140,12 @@ fn face_poke(
     position: Position,
 ) -> Answer
     requires { ⌜ (length (now past) ≡ length (now arcs)) × (length (now pastedges) ≡ length (now edges)) ⌝ }
-    ensures { λ r. ⌜ ((ks : List ℕ) → step (mesh (now (vertices .exit)) (now (positions .exit)) (now (arcs .exit)) (now (edges .exit)) (now (faces .exit)) (now (counters .exit))) r ≡ Call.work (mesh (now (vertices .entry)) (now (positions .entry)) (now (arcs .entry)) (now (edges .entry)) (now (faces .entry)) (now (counters .entry))) (FacePoke face position) ks) × Kept (now (vertices .entry)) (now (positions .entry)) (now (positions .exit)) ⌝ }
+    ensures { λ r. ⌜
+        ((ks : List ℕ) →
+        step (meshAfter vertices positions arcs edges faces counters) r
+        ≡ Call.work (meshBefore vertices positions arcs edges faces counters) (FacePoke face position) ks)
+        × Kept (now (vertices .entry)) (now (positions .entry)) (now (positions .exit))
+        ⌝ }
 {
     let f = rows::find_key3(faces, face);
     poke::poke_work(
@@ -151,7 +174,11 @@ fn face_bridge(
     destination: u32,
 ) -> Answer
     requires { ⌜ (length (now past) ≡ length (now arcs)) × (length (now pastedges) ≡ length (now edges)) ⌝ }
-    ensures { λ r. ⌜ ((p : List (List Float)) (ks : List ℕ) → step (mesh (now (vertices .exit)) p (now (arcs .exit)) (now (edges .exit)) (now (faces .exit)) (now (counters .exit))) r ≡ Call.work (mesh (now (vertices .entry)) p (now (arcs .entry)) (now (edges .entry)) (now (faces .entry)) (now (counters .entry))) (FaceBridge source destination) ks) ⌝ }
+    ensures { λ r. ⌜
+        ((p : List (List Float)) (ks : List ℕ) →
+        step (meshAfter vertices (unlent p) arcs edges faces counters) r
+        ≡ Call.work (meshBefore vertices (unlent p) arcs edges faces counters) (FaceBridge source destination) ks)
+        ⌝ }
 {
     let f = rows::find_key3(faces, source);
     let g = rows::find_key3(faces, destination);
@@ -181,7 +208,12 @@ fn face_extrude(
     by: Move,
 ) -> Answer
     requires { ⌜ (length (now past) ≡ length (now arcs)) × (length (now pastedges) ≡ length (now edges)) ⌝ }
-    ensures { λ r. ⌜ ((ks : List ℕ) → step (mesh (now (vertices .exit)) (now (positions .exit)) (now (arcs .exit)) (now (edges .exit)) (now (faces .exit)) (now (counters .exit))) r ≡ Call.work (mesh (now (vertices .entry)) (now (positions .entry)) (now (arcs .entry)) (now (edges .entry)) (now (faces .entry)) (now (counters .entry))) (FaceExtrude face by) ks) × Kept (now (vertices .entry)) (now (positions .entry)) (now (positions .exit)) ⌝ }
+    ensures { λ r. ⌜
+        ((ks : List ℕ) →
+        step (meshAfter vertices positions arcs edges faces counters) r
+        ≡ Call.work (meshBefore vertices positions arcs edges faces counters) (FaceExtrude face by) ks)
+        × Kept (now (vertices .entry)) (now (positions .entry)) (now (positions .exit))
+        ⌝ }
 {
     let f = rows::find_key3(faces, face);
     extrude::extrude_work(
@@ -212,7 +244,11 @@ fn arc_bridge(
     d: u32,
 ) -> Answer
     requires { ⌜ (length (now past) ≡ length (now arcs)) × (length (now pastedges) ≡ length (now edges)) ⌝ }
-    ensures { λ r. ⌜ ((p : List (List Float)) (ks : List ℕ) → step (mesh (now (vertices .exit)) p (now (arcs .exit)) (now (edges .exit)) (now (faces .exit)) (now (counters .exit))) r ≡ Call.work (mesh (now (vertices .entry)) p (now (arcs .entry)) (now (edges .entry)) (now (faces .entry)) (now (counters .entry))) (ArcBridge a b c d) ks) ⌝ }
+    ensures { λ r. ⌜
+        ((p : List (List Float)) (ks : List ℕ) →
+        step (meshAfter vertices (unlent p) arcs edges faces counters) r
+        ≡ Call.work (meshBefore vertices (unlent p) arcs edges faces counters) (ArcBridge a b c d) ks)
+        ⌝ }
 {
     let four = checks::call::four_by_keys(vertices, a, b, c, d);
     edits::arc::arc_bridge_work(
@@ -241,7 +277,12 @@ fn arc_extrude(
     by: Move,
 ) -> Answer
     requires { ⌜ (length (now past) ≡ length (now arcs)) × (length (now pastedges) ≡ length (now edges)) ⌝ }
-    ensures { λ r. ⌜ ((ks : List ℕ) → step (mesh (now (vertices .exit)) (now (positions .exit)) (now (arcs .exit)) (now (edges .exit)) (now (faces .exit)) (now (counters .exit))) r ≡ Call.work (mesh (now (vertices .entry)) (now (positions .entry)) (now (arcs .entry)) (now (edges .entry)) (now (faces .entry)) (now (counters .entry))) (ArcExtrude s d by) ks) × Kept (now (vertices .entry)) (now (positions .entry)) (now (positions .exit)) ⌝ }
+    ensures { λ r. ⌜
+        ((ks : List ℕ) →
+        step (meshAfter vertices positions arcs edges faces counters) r
+        ≡ Call.work (meshBefore vertices positions arcs edges faces counters) (ArcExtrude s d by) ks)
+        × Kept (now (vertices .entry)) (now (positions .entry)) (now (positions .exit))
+        ⌝ }
 {
     let x = checks::call::arc_by_keys(vertices, arcs, s, d);
     edits::arc::arc_extrude_work(
@@ -273,7 +314,11 @@ pub fn work(
 ) -> Answer
     requires { ⌜ (length (now past) ≡ length (now arcs)) × (length (now pastedges) ≡ length (now edges)) ⌝ }
     requires { ⌜ ((mark : ℕ) → edit ≡ FaceInsert mark → length (now keys) ≤ 64) ⌝ }
-    ensures { λ r. ⌜ (step (mesh (now (vertices .exit)) (now (positions .exit)) (now (arcs .exit)) (now (edges .exit)) (now (faces .exit)) (now (counters .exit))) r ≡ Call.work (mesh (now (vertices .entry)) (now (positions .entry)) (now (arcs .entry)) (now (edges .entry)) (now (faces .entry)) (now (counters .entry))) edit (now (keys .entry))) × Kept (now (vertices .entry)) (now (positions .entry)) (now (positions .exit)) ⌝ }
+    ensures { λ r. ⌜
+        (step (meshAfter vertices positions arcs edges faces counters) r
+        ≡ Call.work (meshBefore vertices positions arcs edges faces counters) edit (now (keys .entry)))
+        × Kept (now (vertices .entry)) (now (positions .entry)) (now (positions .exit))
+        ⌝ }
 {
     match edit {
         Edit::VertexInsert(position) => vertex_insert(vertices, positions, counters, position),

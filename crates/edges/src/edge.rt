@@ -14,6 +14,7 @@ ghost use Prim.Native.Nat.{ℕ};
 ghost use lib.Ieee.{Float};
 ghost use Rattle.rules.specs.Table.{Table, freeRow};
 ghost use Rattle.rules.specs.Mesh.{mesh};
+ghost use Rattle.rules.specs.Lent.{unlent, meshBefore, meshAfter};
 ghost use Rattle.rules.specs.Link.{newArc, newEdge, getOrInsertEdge};
 ghost use Rattle.edges.specs.Free.{UsedBefore};
 
@@ -27,7 +28,11 @@ fn new_arc(
     e: u32,
 ) -> u32
     requires { ⌜ UsedBefore (now arcs) from ⌝ }
-    ensures { λ r. ⌜ (r ≡ freeRow (now (arcs .entry))) × ((p : List (List Float)) (d f : Table) (k : List ℕ) → mesh (now (vertices .exit)) p (now (arcs .exit)) d f k ≡ newArc (mesh (now (vertices .entry)) p (now (arcs .entry)) d f k) a b e) ⌝ }
+    ensures { λ r. ⌜
+        (r ≡ freeRow (now (arcs .entry)))
+        × ((p : List (List Float)) (d f : Table) (k : List ℕ) →
+        mesh (now (vertices .exit)) p (now (arcs .exit)) d f k ≡ newArc (mesh (now (vertices .entry)) p (now (arcs .entry)) d f k) a b e)
+        ⌝ }
 {
     let x = free::free6(arcs, from);
     rows::put_row6(arcs, x, [a, b, 0, 0, 0, e]);
@@ -47,7 +52,11 @@ pub fn new_edge_from(
     b: u32,
 ) -> Lowest
     requires { ⌜ UsedBefore (now arcs) (from .arc) × UsedBefore (now edges) (from .edge) ⌝ }
-    ensures { λ r. ⌜ (r ≡ record { arc = freeRow (now (arcs .entry)); edge = freeRow (now (edges .entry)); face = from .face }) × ((p : List (List Float)) (f : Table) → mesh (now (vertices .exit)) p (now (arcs .exit)) (now (edges .exit)) f (now (counters .exit)) ≡ newEdge (mesh (now (vertices .entry)) p (now (arcs .entry)) (now (edges .entry)) f (now (counters .entry))) a b) ⌝ }
+    ensures { λ r. ⌜
+        (r ≡ record { arc = freeRow (now (arcs .entry)); edge = freeRow (now (edges .entry)); face = from .face })
+        × ((p : List (List Float)) (f : Table) →
+        meshAfter vertices (unlent p) arcs edges (unlent f) counters ≡ newEdge (meshBefore vertices (unlent p) arcs edges (unlent f) counters) a b)
+        ⌝ }
 {
     let row = free::free3(edges, from.edge);
     let x = new_arc(vertices, arcs, from.arc, a, b, row);
@@ -71,7 +80,10 @@ pub fn new_edge(
     a: u32,
     b: u32,
 )
-    ensures { λ _. ⌜ ((p : List (List Float)) (f : Table) → mesh (now (vertices .exit)) p (now (arcs .exit)) (now (edges .exit)) f (now (counters .exit)) ≡ newEdge (mesh (now (vertices .entry)) p (now (arcs .entry)) (now (edges .entry)) f (now (counters .entry))) a b) ⌝ }
+    ensures { λ _. ⌜
+        ((p : List (List Float)) (f : Table) →
+        meshAfter vertices (unlent p) arcs edges (unlent f) counters ≡ newEdge (meshBefore vertices (unlent p) arcs edges (unlent f) counters) a b)
+        ⌝ }
 {
     let from = Lowest {
         arc: 0,
@@ -90,7 +102,11 @@ pub fn get_or_insert_edge(
     a: u32,
     b: u32,
 )
-    ensures { λ _. ⌜ ((p : List (List Float)) (f : Table) → mesh (now (vertices .exit)) p (now (arcs .exit)) (now (edges .exit)) f (now (counters .exit)) ≡ getOrInsertEdge (mesh (now (vertices .entry)) p (now (arcs .entry)) (now (edges .entry)) f (now (counters .entry))) a b) ⌝ }
+    ensures { λ _. ⌜
+        ((p : List (List Float)) (f : Table) →
+        meshAfter vertices (unlent p) arcs edges (unlent f) counters
+        ≡ getOrInsertEdge (meshBefore vertices (unlent p) arcs edges (unlent f) counters) a b)
+        ⌝ }
 {
     if rows::find_arc(arcs, a, b) == 0 {
         new_edge(vertices, arcs, edges, counters, a, b);

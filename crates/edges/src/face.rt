@@ -21,7 +21,11 @@ ghost use Rattle.edges.specs.Free.{UsedBefore};
 // The record with its arc and mark in the lowest unused row, which is looked for from a row on, with the next key; the row's link.
 pub fn new_face(faces: &mut [FaceRow], counters: &mut [u32; 3], from: u32, x: u32, mark: u32) -> u32
     requires { ⌜ UsedBefore (now faces) from ⌝ }
-    ensures { λ r. ⌜ (r ≡ freeRow (now (faces .entry))) × ((v : Table) (p : List (List Float)) (a e : Table) → mesh v p a e (now (faces .exit)) (now (counters .exit)) ≡ newFace (mesh v p a e (now (faces .entry)) (now (counters .entry))) x mark) ⌝ }
+    ensures { λ r. ⌜
+        (r ≡ freeRow (now (faces .entry)))
+        × ((v : Table) (p : List (List Float)) (a e : Table) →
+        mesh v p a e (now (faces .exit)) (now (counters .exit)) ≡ newFace (mesh v p a e (now (faces .entry)) (now (counters .entry))) x mark)
+        ⌝ }
 {
     let row = free::free3(faces, from);
     let key = counters[2];
@@ -45,7 +49,10 @@ fn clear_faces(arcs: &mut [ArcRow], ring: Links)
 
 // The face is taken out.
 pub fn remove_face(arcs: &mut [ArcRow], faces: &mut [FaceRow], f: u32)
-    ensures { λ _. ⌜ ((v : Table) (p : List (List Float)) (e : Table) (k : List ℕ) → mesh v p (now (arcs .exit)) e (now (faces .exit)) k ≡ remove (mesh v p (now (arcs .entry)) e (now (faces .entry)) k) f) ⌝ }
+    ensures { λ _. ⌜
+        ((v : Table) (p : List (List Float)) (e : Table) (k : List ℕ) →
+        mesh v p (now (arcs .exit)) e (now (faces .exit)) k ≡ remove (mesh v p (now (arcs .entry)) e (now (faces .entry)) k) f)
+        ⌝ }
 {
     let first = rows::cell3(faces, f, 1);
     let walk = walks::rings::ring(arcs, first);

@@ -20,7 +20,12 @@ pub fn new_vertex(
     position: Position,
 ) -> u32
     requires { ⌜ UsedBefore (now vertices) from ⌝ }
-    ensures { λ r. ⌜ (r ≡ freeRow (now (vertices .entry))) × ((a e f : Table) → mesh (now (vertices .exit)) (now (positions .exit)) a e f (now (counters .exit)) ≡ newVertex (mesh (now (vertices .entry)) (now (positions .entry)) a e f (now (counters .entry))) position) ⌝ }
+    ensures { λ r. ⌜
+        (r ≡ freeRow (now (vertices .entry)))
+        × ((a e f : Table) →
+        mesh (now (vertices .exit)) (now (positions .exit)) a e f (now (counters .exit))
+        ≡ newVertex (mesh (now (vertices .entry)) (now (positions .entry)) a e f (now (counters .entry))) position)
+        ⌝ }
 {
     let row = free::free2(vertices, from);
     let key = counters[0];

@@ -22,7 +22,7 @@ ghost use mathlib.Core.Path.{_≡_};
 ghost use mathlib.Core.List.{List};
 ghost use lib.ListN.{length};
 ghost use lib.Ieee.{Float};
-ghost use Rattle.rules.specs.Mesh.{mesh};
+ghost use Rattle.rules.specs.Lent.{unlent, meshBefore, meshAfter};
 ghost use Rattle.rules.specs.Step.{step};
 ghost use Rattle.rules.specs.Edit.{arcBridgeWork, arcBridge};
 ghost use Rattle.rules.specs.Extrude.{arcExtrudeWork};
@@ -46,7 +46,12 @@ pub fn arc_bridge_work(
     four: [u32; 4],
 ) -> Answer
     requires { ⌜ (length (now past) ≡ length (now arcs)) × (length (now pastedges) ≡ length (now edges)) ⌝ }
-    ensures { λ r. ⌜ ((p : List (List Float)) → step (mesh (now (vertices .exit)) p (now (arcs .exit)) (now (edges .exit)) (now (faces .exit)) (now (counters .exit))) r ≡ arcBridgeWork (mesh (now (vertices .entry)) p (now (arcs .entry)) (now (edges .entry)) (now (faces .entry)) (now (counters .entry))) (oneOf (now (arcs .entry)) four) (otherOf (now (arcs .entry)) four)) ⌝ }
+    ensures { λ r. ⌜
+        ((p : List (List Float)) →
+        step (meshAfter vertices (unlent p) arcs edges faces counters) r
+        ≡ arcBridgeWork (meshBefore vertices (unlent p) arcs edges faces counters) (oneOf (now (arcs .entry)) four)
+        (otherOf (now (arcs .entry)) four))
+        ⌝ }
 {
     let told = checks::bridge::corners_between(arcs, four);
     let key = counters[2];
@@ -88,7 +93,10 @@ pub fn arc_bridge(
 ) -> Answer
     requires { ⌜ (length (now past) ≡ length (now arcs)) × (length (now pastedges) ≡ length (now edges)) ⌝ }
     requires { ⌜ Known (now arcs) (now edges) (now faces) (now seen) (now near) around ⌝ }
-    ensures { λ r. ⌜ ((p : List (List Float)) → step (mesh (now (vertices .exit)) p (now (arcs .exit)) (now (edges .exit)) (now (faces .exit)) (now (counters .exit))) r ≡ arcBridge (mesh (now (vertices .entry)) p (now (arcs .entry)) (now (edges .entry)) (now (faces .entry)) (now (counters .entry))) x y) ⌝ }
+    ensures { λ r. ⌜
+        ((p : List (List Float)) →
+        step (meshAfter vertices (unlent p) arcs edges faces counters) r ≡ arcBridge (meshBefore vertices (unlent p) arcs edges faces counters) x y)
+        ⌝ }
 {
     let four = checks::bridge::corners_of(arcs, x, y);
     let per = checks::bridge::corner_list(four);
@@ -133,7 +141,11 @@ fn joined(
     d: u32,
 ) -> Answer
     requires { ⌜ (length (now past) ≡ length (now arcs)) × (length (now pastedges) ≡ length (now edges)) ⌝ }
-    ensures { λ r. ⌜ ((p : List (List Float)) → step (mesh (now (vertices .exit)) p (now (arcs .exit)) (now (edges .exit)) (now (faces .exit)) (now (counters .exit))) r ≡ joinedBy (mesh (now (vertices .entry)) p (now (arcs .entry)) (now (edges .entry)) (now (faces .entry)) (now (counters .entry))) x c d) ⌝ }
+    ensures { λ r. ⌜
+        ((p : List (List Float)) →
+        step (meshAfter vertices (unlent p) arcs edges faces counters) r
+        ≡ joinedBy (meshBefore vertices (unlent p) arcs edges faces counters) x c d)
+        ⌝ }
 {
     let mut seen = [false; MARKS];
     let mut links = [0u32; NEAR];
@@ -171,7 +183,11 @@ pub fn arc_extrude_work(
     by: Move,
 ) -> Answer
     requires { ⌜ (length (now past) ≡ length (now arcs)) × (length (now pastedges) ≡ length (now edges)) ⌝ }
-    ensures { λ r. ⌜ (step (mesh (now (vertices .exit)) (now (positions .exit)) (now (arcs .exit)) (now (edges .exit)) (now (faces .exit)) (now (counters .exit))) r ≡ arcExtrudeWork (mesh (now (vertices .entry)) (now (positions .entry)) (now (arcs .entry)) (now (edges .entry)) (now (faces .entry)) (now (counters .entry))) x by) × Kept (now (vertices .entry)) (now (positions .entry)) (now (positions .exit)) ⌝ }
+    ensures { λ r. ⌜
+        (step (meshAfter vertices positions arcs edges faces counters) r
+        ≡ arcExtrudeWork (meshBefore vertices positions arcs edges faces counters) x by)
+        × Kept (now (vertices .entry)) (now (positions .entry)) (now (positions .exit))
+        ⌝ }
 {
     let b = rows::cell6(arcs, x, 1);
     let a = rows::cell6(arcs, x, 0);

@@ -15,7 +15,8 @@ ghost use mathlib.Core.Path.{_≡_};
 ghost use mathlib.Core.List.{List};
 ghost use lib.ListN.{length};
 ghost use lib.Ieee.{Float};
-ghost use Rattle.rules.specs.Mesh.{mesh, listOf};
+ghost use Rattle.rules.specs.Mesh.{listOf};
+ghost use Rattle.rules.specs.Lent.{unlent, meshBefore, meshAfter};
 ghost use Rattle.rules.specs.Step.{step};
 ghost use Rattle.rules.specs.Insert.{insertFace};
 ghost use Rattle.edits.specs.Known.{Known};
@@ -36,7 +37,11 @@ pub fn insert_face(
 ) -> Answer
     requires { ⌜ (length (now past) ≡ length (now arcs)) × (length (now pastedges) ≡ length (now edges)) ⌝ }
     requires { ⌜ Known (now arcs) (now edges) (now faces) (now seen) (now near) around ⌝ }
-    ensures { λ r. ⌜ ((p : List (List Float)) → step (mesh (now (vertices .exit)) p (now (arcs .exit)) (now (edges .exit)) (now (faces .exit)) (now (counters .exit))) r ≡ insertFace (mesh (now (vertices .entry)) p (now (arcs .entry)) (now (edges .entry)) (now (faces .entry)) (now (counters .entry))) (listOf per) mark) ⌝ }
+    ensures { λ r. ⌜
+        ((p : List (List Float)) →
+        step (meshAfter vertices (unlent p) arcs edges faces counters) r
+        ≡ insertFace (meshBefore vertices (unlent p) arcs edges faces counters) (listOf per) mark)
+        ⌝ }
 {
     lists::known_few(per);
     let by = around.by;

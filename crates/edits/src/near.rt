@@ -19,7 +19,8 @@ ghost use mathlib.Core.List.{List};
 ghost use Prim.Native.Nat.{_≤_};
 ghost use lib.Ieee.{Float};
 ghost use Rattle.rules.specs.Table.{Table};
-ghost use Rattle.rules.specs.Mesh.{mesh, arcBetween};
+ghost use Rattle.rules.specs.Mesh.{arcBetween};
+ghost use Rattle.rules.specs.Lent.{unlent, meshBefore, meshAfter};
 ghost use Rattle.rules.specs.Link.{getOrInsertEdge};
 ghost use Rattle.edges.specs.Free.{UsedBefore};
 ghost use Rattle.pairs.specs.Near.{Near};
@@ -93,7 +94,12 @@ pub fn edge_near(
 ) -> u32
     requires { ⌜ Near (now arcs) (now seen) (now near) (around .by) ⌝ }
     requires { ⌜ UsedBefore (now arcs) (around .from .arc) × UsedBefore (now edges) (around .from .edge) ⌝ }
-    ensures { λ r. ⌜ ((p : List (List Float)) (f : Table) → mesh (now (vertices .exit)) p (now (arcs .exit)) (now (edges .exit)) f (now (counters .exit)) ≡ getOrInsertEdge (mesh (now (vertices .entry)) p (now (arcs .entry)) (now (edges .entry)) f (now (counters .entry))) a b) × (r ≡ arcBetween (now (arcs .exit)) a b) ⌝ }
+    ensures { λ r. ⌜
+        ((p : List (List Float)) (f : Table) →
+        meshAfter vertices (unlent p) arcs edges (unlent f) counters
+        ≡ getOrInsertEdge (meshBefore vertices (unlent p) arcs edges (unlent f) counters) a b)
+        × (r ≡ arcBetween (now (arcs .exit)) a b)
+        ⌝ }
 {
     let by = around.by;
     let x = pairs::near::arc_between_near(arcs, a, b, seen, near, by);

@@ -26,6 +26,7 @@ ghost use lib.Ieee.{Float};
 ghost use Rattle.rules.specs.declared.Answer.the-variants.{Done};
 ghost use Rattle.rules.specs.Table.{Table, upTo};
 ghost use Rattle.rules.specs.Mesh.{mesh, linksOf, listOf};
+ghost use Rattle.rules.specs.Lent.{unlent, meshBefore, meshAfter};
 ghost use Rattle.rules.specs.Step.{step, andThen, answering};
 ghost use Rattle.rules.specs.Insert.{insertFace};
 ghost use Rattle.rules.specs.Extrude.{copies, wall, extrudeWork};
@@ -41,7 +42,12 @@ fn copies_in(
     by: Move,
     vs: Links,
 ) -> Links
-    ensures { λ r. ⌜ ((a e f : Table) → record { tables = mesh (now (vertices .exit)) (now (positions .exit)) a e f (now (counters .exit)); links = listOf r } ≡ copies (mesh (now (vertices .entry)) (now (positions .entry)) a e f (now (counters .entry))) by (listOf vs)) × Added (now (vertices .entry)) (now (positions .entry)) (now (vertices .exit)) (now (positions .exit)) ⌝ }
+    ensures { λ r. ⌜
+        ((a e f : Table) →
+        record { tables = mesh (now (vertices .exit)) (now (positions .exit)) a e f (now (counters .exit)); links = listOf r }
+        ≡ copies (mesh (now (vertices .entry)) (now (positions .entry)) a e f (now (counters .entry))) by (listOf vs))
+        × Added (now (vertices .entry)) (now (positions .entry)) (now (vertices .exit)) (now (positions .exit))
+        ⌝ }
 {
     let n = lists::size(vs);
     lists::known_few(vs);
@@ -90,7 +96,12 @@ fn walls_in(
 ) -> Answer
     requires { ⌜ (length (now past) ≡ length (now arcs)) × (length (now pastedges) ≡ length (now edges)) ⌝ }
     requires { ⌜ Known (now arcs) (now edges) (now faces) (now seen) (now near) around ⌝ }
-    ensures { λ r. ⌜ ((p : List (List Float)) → step (mesh (now (vertices .exit)) p (now (arcs .exit)) (now (edges .exit)) (now (faces .exit)) (now (counters .exit))) r ≡ eachIn (λ i a. insertFace a (wall (listOf vs) (listOf ds) i) 0) (length (listOf vs)) (mesh (now (vertices .entry)) p (now (arcs .entry)) (now (edges .entry)) (now (faces .entry)) (now (counters .entry)))) ⌝ }
+    ensures { λ r. ⌜
+        ((p : List (List Float)) →
+        step (meshAfter vertices (unlent p) arcs edges faces counters) r
+        ≡ eachIn (λ i a. insertFace a (wall (listOf vs) (listOf ds) i) 0) (length (listOf vs))
+        (meshBefore vertices (unlent p) arcs edges faces counters))
+        ⌝ }
 {
     let n = lists::size(vs);
     let mut i: usize = 0;
@@ -130,7 +141,13 @@ fn top_and_walls(
     ds: Links,
 ) -> Answer
     requires { ⌜ (length (now past) ≡ length (now arcs)) × (length (now pastedges) ≡ length (now edges)) ⌝ }
-    ensures { λ r. ⌜ ((p : List (List Float)) → step (mesh (now (vertices .exit)) p (now (arcs .exit)) (now (edges .exit)) (now (faces .exit)) (now (counters .exit))) r ≡ answering Done (upTo (λ i s. andThen s (λ a. insertFace a (wall (listOf vs) (listOf ds) i) 0)) (length (listOf vs)) (insertFace (mesh (now (vertices .entry)) p (now (arcs .entry)) (now (edges .entry)) (now (faces .entry)) (now (counters .entry))) (listOf ds) 0))) ⌝ }
+    ensures { λ r. ⌜
+        ((p : List (List Float)) →
+        step (meshAfter vertices (unlent p) arcs edges faces counters) r
+        ≡ answering Done
+        (upTo (λ i s. andThen s (λ a. insertFace a (wall (listOf vs) (listOf ds) i) 0)) (length (listOf vs))
+        (insertFace (meshBefore vertices (unlent p) arcs edges faces counters) (listOf ds) 0)))
+        ⌝ }
 {
     lists::known_few(vs);
     let n = lists::size(vs);
@@ -184,7 +201,11 @@ pub fn extrude_work(
     by: Move,
 ) -> Answer
     requires { ⌜ (length (now past) ≡ length (now arcs)) × (length (now pastedges) ≡ length (now edges)) ⌝ }
-    ensures { λ r. ⌜ (step (mesh (now (vertices .exit)) (now (positions .exit)) (now (arcs .exit)) (now (edges .exit)) (now (faces .exit)) (now (counters .exit))) r ≡ extrudeWork (mesh (now (vertices .entry)) (now (positions .entry)) (now (arcs .entry)) (now (edges .entry)) (now (faces .entry)) (now (counters .entry))) f by) × Kept (now (vertices .entry)) (now (positions .entry)) (now (positions .exit)) ⌝ }
+    ensures { λ r. ⌜
+        (step (meshAfter vertices positions arcs edges faces counters) r
+        ≡ extrudeWork (meshBefore vertices positions arcs edges faces counters) f by)
+        × Kept (now (vertices .entry)) (now (positions .entry)) (now (positions .exit))
+        ⌝ }
 {
     let vs = checks::rings::vertices_of(arcs, faces, f);
     let key = counters[2];

@@ -19,7 +19,8 @@ ghost use mathlib.Core.List.{List};
 ghost use Prim.Native.Nat.{ℕ, _≤_};
 ghost use lib.ListN.{length};
 ghost use lib.Ieee.{Float};
-ghost use Rattle.rules.specs.Mesh.{mesh, listOf};
+ghost use Rattle.rules.specs.Mesh.{listOf};
+ghost use Rattle.rules.specs.Lent.{unlent, meshBefore, meshAfter};
 ghost use Rattle.rules.specs.Insert.{putFace, listsOf};
 ghost use Rattle.edges.specs.Free.{UsedBefore};
 ghost use Rattle.pairs.specs.Pairs.{arcsOf};
@@ -45,7 +46,12 @@ fn put_face_by(
     mark: u32,
 )
     requires { ⌜ listOf found ≡ arcsOf (now arcs) (listOf per) ⌝ }
-    ensures { λ _. ⌜ ((p : List (List Float)) → mesh (now (vertices .exit)) p (now (arcs .exit)) (now (edges .exit)) (now (faces .exit)) (now (counters .exit)) ≡ putFace (mesh (now (vertices .entry)) p (now (arcs .entry)) (now (edges .entry)) (now (faces .entry)) (now (counters .entry))) (listOf per) (listsFrom (now (past .entry)) (now (pastedges .entry)) bound (listOf leads)) mark) ⌝ }
+    ensures { λ _. ⌜
+        ((p : List (List Float)) →
+        meshAfter vertices (unlent p) arcs edges faces counters
+        ≡ putFace (meshBefore vertices (unlent p) arcs edges faces counters) (listOf per)
+        (listsFrom (now (past .entry)) (now (pastedges .entry)) bound (listOf leads)) mark)
+        ⌝ }
 {
     let start = Lowest {
         arc: 0,
@@ -59,7 +65,7 @@ fn put_face_by(
     perimeter::exterior(arcs, edges, past, pastedges, bound, leads, xs);
 }
 
-// The same where the perimeter's arcs are still to be found.
+// The edges, the face, the interior and the exterior by lists from these leading arcs, the perimeter's arcs looked for first.
 pub fn put_face(
     vertices: &mut [VertexRow],
     arcs: &mut [ArcRow],
@@ -73,7 +79,12 @@ pub fn put_face(
     per: Links,
     mark: u32,
 )
-    ensures { λ _. ⌜ ((p : List (List Float)) → mesh (now (vertices .exit)) p (now (arcs .exit)) (now (edges .exit)) (now (faces .exit)) (now (counters .exit)) ≡ putFace (mesh (now (vertices .entry)) p (now (arcs .entry)) (now (edges .entry)) (now (faces .entry)) (now (counters .entry))) (listOf per) (listsFrom (now (past .entry)) (now (pastedges .entry)) bound (listOf leads)) mark) ⌝ }
+    ensures { λ _. ⌜
+        ((p : List (List Float)) →
+        meshAfter vertices (unlent p) arcs edges faces counters
+        ≡ putFace (meshBefore vertices (unlent p) arcs edges faces counters) (listOf per)
+        (listsFrom (now (past .entry)) (now (pastedges .entry)) bound (listOf leads)) mark)
+        ⌝ }
 {
     lists::known_few(per);
     let found = pairs::perimeter_arcs(arcs, per);
@@ -93,7 +104,7 @@ pub fn put_face(
     );
 }
 
-// The same by lists that are taken: each stands in its row. Unused rows are looked for from these on.
+// The edges, the face, the interior and the exterior by lists that stand each in its row. Unused rows are looked for from these on.
 pub fn put_face_taken(
     vertices: &mut [VertexRow],
     arcs: &mut [ArcRow],
@@ -108,7 +119,11 @@ pub fn put_face_taken(
 )
     requires { ⌜ (length (listOf per) ≤ length (now rows)) × (listOf found ≡ arcsOf (now arcs) (listOf per)) ⌝ }
     requires { ⌜ UsedBefore (now arcs) (from .arc) × (UsedBefore (now edges) (from .edge) × UsedBefore (now faces) (from .face)) ⌝ }
-    ensures { λ _. ⌜ ((p : List (List Float)) → mesh (now (vertices .exit)) p (now (arcs .exit)) (now (edges .exit)) (now (faces .exit)) (now (counters .exit)) ≡ putFace (mesh (now (vertices .entry)) p (now (arcs .entry)) (now (edges .entry)) (now (faces .entry)) (now (counters .entry))) (listOf per) (now (rows .entry)) mark) ⌝ }
+    ensures { λ _. ⌜
+        ((p : List (List Float)) →
+        meshAfter vertices (unlent p) arcs edges faces counters
+        ≡ putFace (meshBefore vertices (unlent p) arcs edges faces counters) (listOf per) (now (rows .entry)) mark)
+        ⌝ }
 {
     let told = perimeter::edges_in(vertices, arcs, edges, counters, per, found, from);
     let ring = perimeter::arcs_told(arcs, per, told);
@@ -132,7 +147,12 @@ fn insert_copied(
 )
     requires { ⌜ (length (now past) ≡ length (now arcs)) × (length (now pastedges) ≡ length (now edges)) ⌝ }
     requires { ⌜ listOf found ≡ arcsOf (now arcs) (listOf per) ⌝ }
-    ensures { λ _. ⌜ ((p : List (List Float)) → mesh (now (vertices .exit)) p (now (arcs .exit)) (now (edges .exit)) (now (faces .exit)) (now (counters .exit)) ≡ putFace (mesh (now (vertices .entry)) p (now (arcs .entry)) (now (edges .entry)) (now (faces .entry)) (now (counters .entry))) (listOf per) (listsOf (mesh (now (vertices .entry)) p (now (arcs .entry)) (now (edges .entry)) (now (faces .entry)) (now (counters .entry))) (listOf per)) mark) ⌝ }
+    ensures { λ _. ⌜
+        ((p : List (List Float)) →
+        meshAfter vertices (unlent p) arcs edges faces counters
+        ≡ putFace (meshBefore vertices (unlent p) arcs edges faces counters) (listOf per)
+        (listsOf (meshBefore vertices (unlent p) arcs edges faces counters) (listOf per)) mark)
+        ⌝ }
 {
     lists::known_few(per);
     sets::copy6(past, arcs);
@@ -175,7 +195,12 @@ fn insert_in_rows(
     requires { ⌜ length (listOf per) ≤ length (now rows) ⌝ }
     requires { ⌜ listOf found ≡ arcsOf (now arcs) (listOf per) ⌝ }
     requires { ⌜ UsedBefore (now arcs) (from .arc) × (UsedBefore (now edges) (from .edge) × UsedBefore (now faces) (from .face)) ⌝ }
-    ensures { λ _. ⌜ ((p : List (List Float)) → mesh (now (vertices .exit)) p (now (arcs .exit)) (now (edges .exit)) (now (faces .exit)) (now (counters .exit)) ≡ putFace (mesh (now (vertices .entry)) p (now (arcs .entry)) (now (edges .entry)) (now (faces .entry)) (now (counters .entry))) (listOf per) (listsOf (mesh (now (vertices .entry)) p (now (arcs .entry)) (now (edges .entry)) (now (faces .entry)) (now (counters .entry))) (listOf per)) mark) ⌝ }
+    ensures { λ _. ⌜
+        ((p : List (List Float)) →
+        meshAfter vertices (unlent p) arcs edges faces counters
+        ≡ putFace (meshBefore vertices (unlent p) arcs edges faces counters) (listOf per)
+        (listsOf (meshBefore vertices (unlent p) arcs edges faces counters) (listOf per)) mark)
+        ⌝ }
 {
     lists::known_few(per);
     let leads = perimeter::leading_arcs(vertices, per);
@@ -208,7 +233,7 @@ fn insert_in_rows(
     );
 }
 
-// The same with rows of its own.
+// The insert with rows of its own for the lists: few for few corners.
 pub fn insert_by(
     vertices: &mut [VertexRow],
     arcs: &mut [ArcRow],
@@ -225,7 +250,12 @@ pub fn insert_by(
     requires { ⌜ (length (now past) ≡ length (now arcs)) × (length (now pastedges) ≡ length (now edges)) ⌝ }
     requires { ⌜ listOf found ≡ arcsOf (now arcs) (listOf per) ⌝ }
     requires { ⌜ UsedBefore (now arcs) (from .arc) × (UsedBefore (now edges) (from .edge) × UsedBefore (now faces) (from .face)) ⌝ }
-    ensures { λ _. ⌜ ((p : List (List Float)) → mesh (now (vertices .exit)) p (now (arcs .exit)) (now (edges .exit)) (now (faces .exit)) (now (counters .exit)) ≡ putFace (mesh (now (vertices .entry)) p (now (arcs .entry)) (now (edges .entry)) (now (faces .entry)) (now (counters .entry))) (listOf per) (listsOf (mesh (now (vertices .entry)) p (now (arcs .entry)) (now (edges .entry)) (now (faces .entry)) (now (counters .entry))) (listOf per)) mark) ⌝ }
+    ensures { λ _. ⌜
+        ((p : List (List Float)) →
+        meshAfter vertices (unlent p) arcs edges faces counters
+        ≡ putFace (meshBefore vertices (unlent p) arcs edges faces counters) (listOf per)
+        (listsOf (meshBefore vertices (unlent p) arcs edges faces counters) (listOf per)) mark)
+        ⌝ }
 {
     lists::known_few(per);
     if lists::size(per) <= FEW {
@@ -263,7 +293,7 @@ pub fn insert_by(
     );
 }
 
-// The same where the perimeter's arcs are still to be found: in one pass, which finds the lowest unused row too.
+// The insert of a perimeter whose arcs are found in one pass, which finds the lowest unused row too.
 pub fn insert_work(
     vertices: &mut [VertexRow],
     arcs: &mut [ArcRow],
@@ -276,7 +306,12 @@ pub fn insert_work(
     mark: u32,
 )
     requires { ⌜ (length (now past) ≡ length (now arcs)) × (length (now pastedges) ≡ length (now edges)) ⌝ }
-    ensures { λ _. ⌜ ((p : List (List Float)) → mesh (now (vertices .exit)) p (now (arcs .exit)) (now (edges .exit)) (now (faces .exit)) (now (counters .exit)) ≡ putFace (mesh (now (vertices .entry)) p (now (arcs .entry)) (now (edges .entry)) (now (faces .entry)) (now (counters .entry))) (listOf per) (listsOf (mesh (now (vertices .entry)) p (now (arcs .entry)) (now (edges .entry)) (now (faces .entry)) (now (counters .entry))) (listOf per)) mark) ⌝ }
+    ensures { λ _. ⌜
+        ((p : List (List Float)) →
+        meshAfter vertices (unlent p) arcs edges faces counters
+        ≡ putFace (meshBefore vertices (unlent p) arcs edges faces counters) (listOf per)
+        (listsOf (meshBefore vertices (unlent p) arcs edges faces counters) (listOf per)) mark)
+        ⌝ }
 {
     lists::known_few(per);
     let mut seen = [false; MARKS];

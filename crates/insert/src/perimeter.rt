@@ -18,7 +18,8 @@ ghost use Prim.Native.Nat.{ℕ};
 ghost use lib.ListN.{getD};
 ghost use lib.Ieee.{Float};
 ghost use Rattle.rules.specs.Table.{Table, cell, has};
-ghost use Rattle.rules.specs.Mesh.{mesh, linksOf, listOf};
+ghost use Rattle.rules.specs.Mesh.{linksOf, listOf};
+ghost use Rattle.rules.specs.Lent.{unlent, meshBefore, meshAfter};
 ghost use Rattle.rules.specs.Insert.{edgesIn};
 ghost use Rattle.edges.specs.Free.{UsedBefore};
 ghost use Rattle.pairs.specs.Pairs.{arcsOf};
@@ -73,7 +74,13 @@ fn edge_in(
     from: Lowest,
 ) -> Edged
     requires { ⌜ UsedBefore (now arcs) (from .arc) × UsedBefore (now edges) (from .edge) ⌝ }
-    ensures { λ r. ⌜ ((per : List ℕ) (i : ℕ) → IsPair per i a b met → Asked (now (arcs .entry)) (now (edges .entry)) per i x from → ((p : List (List Float)) (f : Table) → mesh (now (vertices .exit)) p (now (arcs .exit)) (now (edges .exit)) f (now (counters .exit)) ≡ edgeIn per i (mesh (now (vertices .entry)) p (now (arcs .entry)) (now (edges .entry)) f (now (counters .entry)))) × ((UsedBefore (now (arcs .exit)) (r .from .arc) × UsedBefore (now (edges .exit)) (r .from .edge)) × Tells (now (arcs .exit)) per i (r .arc))) ⌝ }
+    ensures { λ r. ⌜
+        ((per : List ℕ) (i : ℕ) → IsPair per i a b met → Asked (now (arcs .entry)) (now (edges .entry)) per i x from →
+        ((p : List (List Float)) (f : Table) →
+        meshAfter vertices (unlent p) arcs edges (unlent f) counters ≡ edgeIn per i (meshBefore vertices (unlent p) arcs edges (unlent f) counters))
+        × ((UsedBefore (now (arcs .exit)) (r .from .arc) × UsedBefore (now (edges .exit)) (r .from .edge))
+        × Tells (now (arcs .exit)) per i (r .arc)))
+        ⌝ }
 {
     if met {
         edge::get_or_insert_edge(vertices, arcs, edges, counters, a, b);
@@ -100,7 +107,12 @@ pub fn edges_in(
 ) -> Links
     requires { ⌜ listOf xs ≡ arcsOf (now arcs) (listOf per) ⌝ }
     requires { ⌜ UsedBefore (now arcs) (start .arc) × UsedBefore (now edges) (start .edge) ⌝ }
-    ensures { λ r. ⌜ ((p : List (List Float)) (f : Table) → mesh (now (vertices .exit)) p (now (arcs .exit)) (now (edges .exit)) f (now (counters .exit)) ≡ edgesIn (listOf per) (mesh (now (vertices .entry)) p (now (arcs .entry)) (now (edges .entry)) f (now (counters .entry)))) × (has (listOf r) 0 ≡ false → listOf r ≡ arcsOf (now (arcs .exit)) (listOf per)) ⌝ }
+    ensures { λ r. ⌜
+        ((p : List (List Float)) (f : Table) →
+        meshAfter vertices (unlent p) arcs edges (unlent f) counters
+        ≡ edgesIn (listOf per) (meshBefore vertices (unlent p) arcs edges (unlent f) counters))
+        × (has (listOf r) 0 ≡ false → listOf r ≡ arcsOf (now (arcs .exit)) (listOf per))
+        ⌝ }
 {
     let n = lists::size(per);
     lists::known_few(per);
@@ -169,7 +181,11 @@ fn exterior_at(
     back: u32,
     x: u32,
 )
-    ensures { λ _. ⌜ now (arcs .exit) ≡ exteriorTo (now (edges .entry)) (listFrom (now (past .entry)) (now (pastedges .entry)) bound out) (listFrom (now (past .entry)) (now (pastedges .entry)) bound back) x (now (arcs .entry)) ⌝ }
+    ensures { λ _. ⌜
+        now (arcs .exit)
+        ≡ exteriorTo (now (edges .entry)) (listFrom (now (past .entry)) (now (pastedges .entry)) bound out)
+        (listFrom (now (past .entry)) (now (pastedges .entry)) bound back) x (now (arcs .entry))
+        ⌝ }
 {
     let o = rows::opposite(arcs, edges, x);
     if rows::cell6(arcs, o, 4) != 0 {
@@ -197,7 +213,11 @@ pub fn exterior(
     leads: Links,
     xs: Links,
 )
-    ensures { λ _. ⌜ now (arcs .exit) ≡ exteriorBy (now (edges .entry)) (listsFrom (now (past .entry)) (now (pastedges .entry)) bound (listOf leads)) (listOf xs) (now (arcs .entry)) ⌝ }
+    ensures { λ _. ⌜
+        now (arcs .exit)
+        ≡ exteriorBy (now (edges .entry)) (listsFrom (now (past .entry)) (now (pastedges .entry)) bound (listOf leads)) (listOf xs)
+        (now (arcs .entry))
+        ⌝ }
 {
     let n = lists::size(xs);
     let mut i: usize = 0;

@@ -127,7 +127,10 @@ pub fn take_lists(
     rows: &mut [[u32; RING]],
 ) -> bool
     requires { ⌜ length (listOf leads) ≤ length (now rows) ⌝ }
-    ensures { λ r. ⌜ (r ≡ true → Taken (now (rows .exit)) (listsFrom (now (arcs .entry)) (now (edges .entry)) (count used (now (arcs .entry))) (listOf leads)) (length (listOf leads))) ⌝ }
+    ensures { λ r. ⌜
+        (r ≡ true → Taken (now (rows .exit)) (listsFrom (now (arcs .entry)) (now (edges .entry)) (count used (now (arcs .entry))) (listOf leads))
+        (length (listOf leads)))
+        ⌝ }
 {
     let n = lists::size(leads);
     lists::known_few(leads);
@@ -162,10 +165,12 @@ fn faceless_out(arcs: &[ArcRow], lists: &[[u32; RING]], i: usize) -> u32
     0
 }
 
-// The same among the opposites of the row's arcs.
+// The first of the opposites of the row's arcs that has no face now, or none.
 fn faceless_in(arcs: &[ArcRow], edges: &[EdgeRow], lists: &[[u32; RING]], i: usize) -> u32
     requires { ⌜ i < length (now lists) ⌝ }
-    ensures { λ r. ⌜ r ≡ facelessIn (now (arcs .entry)) (map (oppositeOf (now (arcs .entry)) (now (edges .entry))) (getD (now (lists .entry)) i [])) ⌝ }
+    ensures { λ r. ⌜
+        r ≡ facelessIn (now (arcs .entry)) (map (oppositeOf (now (arcs .entry)) (now (edges .entry))) (getD (now (lists .entry)) i []))
+        ⌝ }
 {
     known_places(lists[i]);
     let mut j: usize = 0;
@@ -189,7 +194,9 @@ fn exterior_at(
     x: u32,
 )
     requires { ⌜ (i < length (now lists)) × (j < length (now lists)) ⌝ }
-    ensures { λ _. ⌜ now (arcs .exit) ≡ exteriorTo (now (edges .entry)) (getD (now (lists .entry)) i []) (getD (now (lists .entry)) j []) x (now (arcs .entry)) ⌝ }
+    ensures { λ _. ⌜
+        now (arcs .exit) ≡ exteriorTo (now (edges .entry)) (getD (now (lists .entry)) i []) (getD (now (lists .entry)) j []) x (now (arcs .entry))
+        ⌝ }
 {
     let o = rows::opposite(arcs, edges, x);
     if rows::cell6(arcs, o, 4) != 0 {

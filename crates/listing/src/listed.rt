@@ -16,6 +16,7 @@ ghost use mathlib.Core.List.{[]};
 ghost use Prim.Native.Nat.{_+_, _≤_};
 ghost use lib.ListN.{length};
 ghost use Rattle.rules.specs.Mesh.{mesh};
+ghost use Rattle.rules.specs.Lent.{unlent, meshBefore};
 ghost use Rattle.script.specs.Texts.{written, wrote};
 ghost use Rattle.listing.specs.Order.{Listable};
 ghost use Rattle.listing.specs.Lines.{lineOf, kindText};
@@ -32,7 +33,10 @@ fn vertex_line(
     at: usize,
 ) -> usize
     requires { ⌜ at + 128 ≤ length (now out) ⌝ }
-    ensures { λ r. ⌜ written (now (out .exit)) r ≡ wrote (now (out .entry)) at (lineOf (mesh (now (vertices .entry)) (now (positions .entry)) (now (arcs .entry)) [] [] []) K.Vertices x) ⌝ }
+    ensures { λ r. ⌜
+        written (now (out .exit)) r
+        ≡ wrote (now (out .entry)) at (lineOf (mesh (now (vertices .entry)) (now (positions .entry)) (now (arcs .entry)) [] [] []) K.Vertices x)
+        ⌝ }
     ensures short { λ r. ⌜ r ≤ at + 128 ⌝ }
 {
     let key = named::vertex_key(vertices, x);
@@ -51,7 +55,9 @@ fn arc_line(
     at: usize,
 ) -> usize
     requires { ⌜ at + 128 ≤ length (now out) ⌝ }
-    ensures { λ r. ⌜ written (now (out .exit)) r ≡ wrote (now (out .entry)) at (lineOf (mesh (now (vertices .entry)) [] (now (arcs .entry)) (now (edges .entry)) (now (faces .entry)) []) K.Arcs x) ⌝ }
+    ensures { λ r. ⌜
+        written (now (out .exit)) r ≡ wrote (now (out .entry)) at (lineOf (meshBefore vertices (unlent []) arcs edges faces (unlent [])) K.Arcs x)
+        ⌝ }
     ensures short { λ r. ⌜ r ≤ at + 128 ⌝ }
 {
     let name = named::arc_name(vertices, arcs, x);
@@ -71,7 +77,10 @@ fn edge_line(
     at: usize,
 ) -> usize
     requires { ⌜ at + 128 ≤ length (now out) ⌝ }
-    ensures { λ r. ⌜ written (now (out .exit)) r ≡ wrote (now (out .entry)) at (lineOf (mesh (now (vertices .entry)) [] (now (arcs .entry)) (now (edges .entry)) [] []) K.Edges x) ⌝ }
+    ensures { λ r. ⌜
+        written (now (out .exit)) r
+        ≡ wrote (now (out .entry)) at (lineOf (mesh (now (vertices .entry)) [] (now (arcs .entry)) (now (edges .entry)) [] []) K.Edges x)
+        ⌝ }
     ensures short { λ r. ⌜ r ≤ at + 128 ⌝ }
 {
     let key = named::key(edges, x);
@@ -88,7 +97,10 @@ fn face_line(
     at: usize,
 ) -> usize
     requires { ⌜ at + 128 ≤ length (now out) ⌝ }
-    ensures { λ r. ⌜ written (now (out .exit)) r ≡ wrote (now (out .entry)) at (lineOf (mesh (now (vertices .entry)) [] (now (arcs .entry)) [] (now (faces .entry)) []) K.Faces x) ⌝ }
+    ensures { λ r. ⌜
+        written (now (out .exit)) r
+        ≡ wrote (now (out .entry)) at (lineOf (mesh (now (vertices .entry)) [] (now (arcs .entry)) [] (now (faces .entry)) []) K.Faces x)
+        ⌝ }
     ensures short { λ r. ⌜ r ≤ at + 128 ⌝ }
 {
     let key = named::key(faces, x);
@@ -109,7 +121,9 @@ fn put_line(
     at: usize,
 ) -> usize
     requires { ⌜ at + 128 ≤ length (now out) ⌝ }
-    ensures { λ r. ⌜ written (now (out .exit)) r ≡ wrote (now (out .entry)) at (lineOf (mesh (now (vertices .entry)) (now (positions .entry)) (now (arcs .entry)) (now (edges .entry)) (now (faces .entry)) []) kind x) ⌝ }
+    ensures { λ r. ⌜
+        written (now (out .exit)) r ≡ wrote (now (out .entry)) at (lineOf (meshBefore vertices positions arcs edges faces (unlent [])) kind x)
+        ⌝ }
     ensures short { λ r. ⌜ r ≤ at + 128 ⌝ }
 {
     match kind {
@@ -133,7 +147,9 @@ pub fn put_records(
 ) -> usize
     requires { ⌜ Listable (now vertices) (now arcs) (now edges) (now faces) ⌝ }
     requires { ⌜ 32768 ≤ length (now out) ⌝ }
-    ensures { λ r. ⌜ written (now (out .exit)) r ≡ wrote (now (out .entry)) 0 (kindText (mesh (now (vertices .entry)) (now (positions .entry)) (now (arcs .entry)) (now (edges .entry)) (now (faces .entry)) []) kind) ⌝ }
+    ensures { λ r. ⌜
+        written (now (out .exit)) r ≡ wrote (now (out .entry)) 0 (kindText (meshBefore vertices positions arcs edges faces (unlent [])) kind)
+        ⌝ }
     ensures short { λ r. ⌜ r ≤ length (now (out .exit)) ⌝ }
 {
     let order = sorted::in_order(kind, vertices, arcs, edges, faces);

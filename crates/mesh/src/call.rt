@@ -26,6 +26,7 @@ ghost use lib.ListN.{length};
 ghost use lib.Ieee.{Float};
 ghost use Rattle.rules.specs.Table.{Table};
 ghost use Rattle.rules.specs.Mesh.{mesh, room};
+ghost use Rattle.rules.specs.Lent.{unlent, meshNow, meshBefore, meshAfter, roomBefore, roomAfter};
 ghost use mathlib.Core.Bool.{true};
 ghost use Prim.Native.Nat.{ℕ, _≤_};
 ghost use Rattle.rules.specs.declared.Edit.the-variants.{FaceInsert};
@@ -48,7 +49,10 @@ fn list_near(
     keys: &[u32],
 ) -> usize
     requires { ⌜ ((mark : ℕ) → edit ≡ FaceInsert mark → length (now keys) ≤ 64) ⌝ }
-    ensures { λ r. ⌜ ((p : List (List Float)) (k : List ℕ) → NearListed (mesh (now (vertices .entry)) p (now (arcs .entry)) (now (edges .entry)) (now (faces .entry)) k) edit (now (keys .entry)) (now (list .exit)) r) ⌝ }
+    ensures { λ r. ⌜
+        ((p : List (List Float)) (k : List ℕ) →
+        NearListed (meshBefore vertices (unlent p) arcs edges faces (unlent k)) edit (now (keys .entry)) (now (list .exit)) r)
+        ⌝ }
 {
     let mut seen = [false; MARKS];
     nearby::vertices::mark_edit(&mut seen, vertices, arcs, faces, edit, keys);
@@ -69,8 +73,16 @@ fn put_back(
     list: &[u32; LISTED],
     n: usize,
 )
-    requires { ⌜ SameSize (mesh (now vertices) [] (now arcs) (now edges) (now faces) []) (mesh (now v) [] (now a) (now e) (now f) []) × (length (now vertices) ≡ length (now positions)) ⌝ }
-    ensures { λ _. ⌜ ((o : Table) (p : List (List Float)) → Undoable o (now (arcs .entry)) (now (a .entry)) (now (list .entry)) n (now (edges .entry)) (now (e .entry)) → Kept (now (v .entry)) p (now (positions .entry)) → Blank (now (v .entry)) p → mesh (now (vertices .exit)) (now (positions .exit)) (now (arcs .exit)) (now (edges .exit)) (now (faces .exit)) [] ≡ mesh (now (v .entry)) p o (now (e .entry)) (now (f .entry)) []) ⌝ }
+    requires { ⌜
+        SameSize (mesh (now vertices) [] (now arcs) (now edges) (now faces) []) (mesh (now v) [] (now a) (now e) (now f) [])
+        × (length (now vertices) ≡ length (now positions))
+        ⌝ }
+    ensures { λ _. ⌜
+        ((o : Table) (p : List (List Float)) →
+        Undoable o (now (arcs .entry)) (now (a .entry)) (now (list .entry)) n (now (edges .entry)) (now (e .entry)) →
+        Kept (now (v .entry)) p (now (positions .entry)) → Blank (now (v .entry)) p →
+        meshAfter vertices positions arcs edges faces (unlent []) ≡ mesh (now (v .entry)) p o (now (e .entry)) (now (f .entry)) [])
+        ⌝ }
 {
     back::put_back(vertices, arcs, edges, faces, v, a, e, f, list, n);
     places::put_back(vertices, positions);
@@ -95,11 +107,15 @@ fn work_listed(
     edit: Edit,
     keys: &[u32],
 ) -> Answer
-    requires { ⌜ Begun (mesh (now vertices) (now positions) (now arcs) (now edges) (now faces) (now counters)) edit (now keys) ⌝ }
+    requires { ⌜ Begun (meshNow vertices positions arcs edges faces counters) edit (now keys) ⌝ }
     requires { ⌜ SameSize (mesh (now vertices) [] (now arcs) (now edges) (now faces) []) (mesh (now v) [] (now a) (now e) (now f) []) ⌝ }
     requires { ⌜ (length (now past) ≡ length (now arcs)) × (length (now pastedges) ≡ length (now edges)) ⌝ }
-    requires { ⌜ NearListed (mesh (now vertices) (now positions) (now arcs) (now edges) (now faces) (now counters)) edit (now keys) (now list) n ⌝ }
-    ensures { λ r. ⌜ left r (mesh (now (vertices .exit)) (now (positions .exit)) (now (arcs .exit)) (now (edges .exit)) (now (faces .exit)) (now (counters .exit))) ≡ over (mesh (now (vertices .entry)) (now (positions .entry)) (now (arcs .entry)) (now (edges .entry)) (now (faces .entry)) (now (counters .entry))) (worked (work (mesh (now (vertices .entry)) (now (positions .entry)) (now (arcs .entry)) (now (edges .entry)) (now (faces .entry)) (now (counters .entry))) edit (now (keys .entry)))) ⌝ }
+    requires { ⌜ NearListed (meshNow vertices positions arcs edges faces counters) edit (now keys) (now list) n ⌝ }
+    ensures { λ r. ⌜
+        left r (meshAfter vertices positions arcs edges faces counters)
+        ≡ over (meshBefore vertices positions arcs edges faces counters)
+        (worked (work (meshBefore vertices positions arcs edges faces counters) edit (now (keys .entry))))
+        ⌝ }
 {
     places::known_exact(positions);
     rows::known_rows(arcs);
@@ -138,7 +154,7 @@ fn work_listed(
     answer
 }
 
-// The same, with the arcs near the edit listed.
+// The edit in place, with the arcs near it listed first, and what is settled.
 fn work_in_place(
     vertices: &mut [VertexRow],
     positions: &mut [PositionRow],
@@ -155,10 +171,14 @@ fn work_in_place(
     edit: Edit,
     keys: &[u32],
 ) -> Answer
-    requires { ⌜ Begun (mesh (now vertices) (now positions) (now arcs) (now edges) (now faces) (now counters)) edit (now keys) ⌝ }
+    requires { ⌜ Begun (meshNow vertices positions arcs edges faces counters) edit (now keys) ⌝ }
     requires { ⌜ SameSize (mesh (now vertices) [] (now arcs) (now edges) (now faces) []) (mesh (now v) [] (now a) (now e) (now f) []) ⌝ }
     requires { ⌜ (length (now past) ≡ length (now arcs)) × (length (now pastedges) ≡ length (now edges)) ⌝ }
-    ensures { λ r. ⌜ left r (mesh (now (vertices .exit)) (now (positions .exit)) (now (arcs .exit)) (now (edges .exit)) (now (faces .exit)) (now (counters .exit))) ≡ over (mesh (now (vertices .entry)) (now (positions .entry)) (now (arcs .entry)) (now (edges .entry)) (now (faces .entry)) (now (counters .entry))) (worked (work (mesh (now (vertices .entry)) (now (positions .entry)) (now (arcs .entry)) (now (edges .entry)) (now (faces .entry)) (now (counters .entry))) edit (now (keys .entry)))) ⌝ }
+    ensures { λ r. ⌜
+        left r (meshAfter vertices positions arcs edges faces counters)
+        ≡ over (meshBefore vertices positions arcs edges faces counters)
+        (worked (work (meshBefore vertices positions arcs edges faces counters) edit (now (keys .entry))))
+        ⌝ }
 {
     let mut list = [0u32; LISTED];
     let n = list_near(&mut list, vertices, arcs, edges, faces, edit, keys);
@@ -204,10 +224,14 @@ fn perform(
     edit: Edit,
     keys: &[u32],
 ) -> Answer
-    requires { ⌜ sound (mesh (now vertices) (now positions) (now arcs) (now edges) (now faces) (now counters)) ≡ true ⌝ }
+    requires { ⌜ sound (meshNow vertices positions arcs edges faces counters) ≡ true ⌝ }
     requires { ⌜ SameSize (mesh (now vertices) [] (now arcs) (now edges) (now faces) []) (mesh (now v) [] (now a) (now e) (now f) []) ⌝ }
     requires { ⌜ (length (now past) ≡ length (now arcs)) × (length (now pastedges) ≡ length (now edges)) ⌝ }
-    ensures { λ r. ⌜ left r (mesh (now (vertices .exit)) (now (positions .exit)) (now (arcs .exit)) (now (edges .exit)) (now (faces .exit)) (now (counters .exit))) ≡ over (mesh (now (vertices .entry)) (now (positions .entry)) (now (arcs .entry)) (now (edges .entry)) (now (faces .entry)) (now (counters .entry))) (decided (mesh (now (vertices .entry)) (now (positions .entry)) (now (arcs .entry)) (now (edges .entry)) (now (faces .entry)) (now (counters .entry))) edit (now (keys .entry))) ⌝ }
+    ensures { λ r. ⌜
+        left r (meshAfter vertices positions arcs edges faces counters)
+        ≡ over (meshBefore vertices positions arcs edges faces counters)
+        (decided (meshBefore vertices positions arcs edges faces counters) edit (now (keys .entry)))
+        ⌝ }
 {
     known_three(*counters);
     let first = decide::decide(
@@ -255,7 +279,7 @@ fn perform(
     )
 }
 
-// The same with rooms that may be larger than the mesh: the parts of them that are as long as the mesh.
+// The edit on a sound mesh with rooms that may be larger than it: in the parts of them that are as long as the mesh.
 fn perform_in_parts(
     vertices: &mut [VertexRow],
     positions: &mut [PositionRow],
@@ -272,9 +296,15 @@ fn perform_in_parts(
     edit: Edit,
     keys: &[u32],
 ) -> Answer
-    requires { ⌜ sound (mesh (now vertices) (now positions) (now arcs) (now edges) (now faces) (now counters)) ≡ true ⌝ }
-    requires { ⌜ Fits (mesh (now vertices) [] (now arcs) (now edges) (now faces) []) (room (now v) [] (now a) (now e) (now f)) (now past) (now pastedges) ⌝ }
-    ensures { λ r. ⌜ left r (mesh (now (vertices .exit)) (now (positions .exit)) (now (arcs .exit)) (now (edges .exit)) (now (faces .exit)) (now (counters .exit))) ≡ over (mesh (now (vertices .entry)) (now (positions .entry)) (now (arcs .entry)) (now (edges .entry)) (now (faces .entry)) (now (counters .entry))) (decided (mesh (now (vertices .entry)) (now (positions .entry)) (now (arcs .entry)) (now (edges .entry)) (now (faces .entry)) (now (counters .entry))) edit (now (keys .entry))) ⌝ }
+    requires { ⌜ sound (meshNow vertices positions arcs edges faces counters) ≡ true ⌝ }
+    requires { ⌜
+        Fits (mesh (now vertices) [] (now arcs) (now edges) (now faces) []) (room (now v) [] (now a) (now e) (now f)) (now past) (now pastedges)
+        ⌝ }
+    ensures { λ r. ⌜
+        left r (meshAfter vertices positions arcs edges faces counters)
+        ≡ over (meshBefore vertices positions arcs edges faces counters)
+        (decided (meshBefore vertices positions arcs edges faces counters) edit (now (keys .entry)))
+        ⌝ }
 {
     let nv = vertices.len();
     let na = arcs.len();
@@ -319,7 +349,11 @@ pub fn change(
     call: Call,
     keys: &[u32],
 ) -> Answer
-    ensures { λ r. ⌜ outcome r (mesh (now (vertices .exit)) (now (positions .exit)) (now (arcs .exit)) (now (edges .exit)) (now (faces .exit)) (now (counters .exit))) (room (now (v1 .exit)) (now (p1 .exit)) (now (a1 .exit)) (now (e1 .exit)) (now (f1 .exit))) (room (now (v2 .exit)) (now (p2 .exit)) (now (a2 .exit)) (now (e2 .exit)) (now (f2 .exit))) ≡ called (mesh (now (vertices .entry)) (now (positions .entry)) (now (arcs .entry)) (now (edges .entry)) (now (faces .entry)) (now (counters .entry))) (room (now (v1 .entry)) (now (p1 .entry)) (now (a1 .entry)) (now (e1 .entry)) (now (f1 .entry))) (room (now (v2 .entry)) (now (p2 .entry)) (now (a2 .entry)) (now (e2 .entry)) (now (f2 .entry))) call (now (keys .entry)) ⌝ }
+    ensures { λ r. ⌜
+        outcome r (meshAfter vertices positions arcs edges faces counters) (roomAfter v1 p1 a1 e1 f1) (roomAfter v2 p2 a2 e2 f2)
+        ≡ called (meshBefore vertices positions arcs edges faces counters) (roomBefore v1 p1 a1 e1 f1) (roomBefore v2 p2 a2 e2 f2) call
+        (now (keys .entry))
+        ⌝ }
 {
     if !decide::is_ready(
         vertices,

@@ -32,7 +32,7 @@ fn known_row(row: PositionRow)
     known_number(row[2]);
 }
 
-// The same of every row. No code is left of it.
+// Says that every row whose bits are zero is the zero row. No code is left of it.
 pub fn known_exact(positions: &[PositionRow])
     ensures { λ _. ⌜ Exact (now (positions .entry)) ⌝ }
 {
@@ -46,7 +46,10 @@ pub fn known_exact(positions: &[PositionRow])
 // One row becomes zero, unless it has a vertex.
 fn clear_row(vertices: &[VertexRow], positions: &mut [PositionRow], i: usize)
     requires { ⌜ (i < length (now vertices)) × (i < length (now positions)) ⌝ }
-    ensures { λ _. ⌜ now (positions .exit) ≡ cond (unused (getD (now (vertices .entry)) i [])) (set (now (positions .entry)) i (replicate 3 zeroFloat)) (now (positions .entry)) ⌝ }
+    ensures { λ _. ⌜
+        now (positions .exit)
+        ≡ cond (unused (getD (now (vertices .entry)) i [])) (set (now (positions .entry)) i (replicate 3 zeroFloat)) (now (positions .entry))
+        ⌝ }
 {
     if vertices[i][0] != 0 {
         return;
@@ -57,7 +60,10 @@ fn clear_row(vertices: &[VertexRow], positions: &mut [PositionRow], i: usize)
 // Every position without a vertex becomes zero: that is as it was, where vertices have kept their places and the others were zero.
 pub fn put_back(vertices: &[VertexRow], positions: &mut [PositionRow])
     requires { ⌜ length (now vertices) ≡ length (now positions) ⌝ }
-    ensures { λ _. ⌜ ((p : List (List Float)) → Kept (now (vertices .entry)) p (now (positions .entry)) → Blank (now (vertices .entry)) p → now (positions .exit) ≡ p) ⌝ }
+    ensures { λ _. ⌜
+        ((p : List (List Float)) → Kept (now (vertices .entry)) p (now (positions .entry)) → Blank (now (vertices .entry)) p →
+        now (positions .exit) ≡ p)
+        ⌝ }
 {
     let mut i = 0;
     while i < positions.len() {

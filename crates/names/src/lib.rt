@@ -148,7 +148,10 @@ fn seat(slots: &[u16], names: &[u32; ROWS], name: u32) -> usize
 // Puts a row, plus one, into a slot where its name finds it, if there is one. The rows before are still found.
 fn seated(slots: &mut [u16], names: &[u32; ROWS], i: usize) -> bool
     requires { ⌜ (i < 8192) × (length (now slots) ≡ 16384) ⌝ }
-    ensures { λ r. ⌜ (r ≡ true → allBelow (finds (now (slots .entry)) (now (names .entry))) i ≡ true → allBelow (finds (now (slots .exit)) (now (names .entry))) (i + 1) ≡ true) ⌝ }
+    ensures { λ r. ⌜
+        (r ≡ true → allBelow (finds (now (slots .entry)) (now (names .entry))) i ≡ true →
+        allBelow (finds (now (slots .exit)) (now (names .entry))) (i + 1) ≡ true)
+        ⌝ }
 {
     if names[i] == 0 {
         return true;

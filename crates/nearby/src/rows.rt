@@ -51,7 +51,10 @@ fn list_row(
     i: usize,
 ) -> usize
     requires { ⌜ (i < length (now arcs)) × ((length (now arcs) ≤ 16384) × (n + 2 ≤ 2048)) ⌝ }
-    ensures { λ r. ⌜ (r ≤ n + 2) × ((seen : List Bool) → ListedTo (now (arcs .entry)) (now (edges .entry)) seen (take n (now (list .entry))) i → ListedTo (now (arcs .entry)) (now (edges .entry)) seen (take r (now (list .exit))) (i + 1)) ⌝ }
+    ensures { λ r. ⌜
+        (r ≤ n + 2) × ((seen : List Bool) → ListedTo (now (arcs .entry)) (now (edges .entry)) seen (take n (now (list .entry))) i →
+        ListedTo (now (arcs .entry)) (now (edges .entry)) seen (take r (now (list .exit))) (i + 1))
+        ⌝ }
 {
     known_places(*list);
     if arcs[i][0] == 0 {
@@ -120,7 +123,10 @@ fn copy_listed(to: &mut [ArcRow], from: &[ArcRow], list: &[u32; LISTED], n: usiz
 // The listed rows, or all where there are too many to list.
 pub fn copy_rows(to: &mut [ArcRow], from: &[ArcRow], list: &[u32; LISTED], n: usize)
     requires { ⌜ length (now to) ≡ length (now from) ⌝ }
-    ensures { λ _. ⌜ (2048 < n → now (to .exit) ≡ now (from .entry)) × (n ≤ 2048 → Copied (take n (now (list .entry))) (now (from .entry)) (now (to .entry)) (now (to .exit))) ⌝ }
+    ensures { λ _. ⌜
+        (2048 < n → now (to .exit) ≡ now (from .entry))
+        × (n ≤ 2048 → Copied (take n (now (list .entry))) (now (from .entry)) (now (to .entry)) (now (to .exit)))
+        ⌝ }
 {
     if n > LISTED {
         sets::copy6(to, from);
@@ -144,7 +150,10 @@ fn is_new(was: EdgeRow, row: EdgeRow) -> bool
 // Both arcs of the edge in row i become zero if that edge was not there.
 fn zero_arcs(arcs: &mut [ArcRow], edges: &[EdgeRow], were: &[EdgeRow], i: usize)
     requires { ⌜ (i < length (now edges)) × (length (now edges) ≡ length (now were)) ⌝ }
-    ensures { λ _. ⌜ ((o : Table) → BlankIfNew (now (were .entry)) (now (edges .entry)) (now (arcs .entry)) o i → Toward o (now (arcs .entry)) (now (arcs .exit)) × RightIfNew (now (were .entry)) (now (edges .entry)) (now (arcs .exit)) o i) ⌝ }
+    ensures { λ _. ⌜
+        ((o : Table) → BlankIfNew (now (were .entry)) (now (edges .entry)) (now (arcs .entry)) o i → Toward o (now (arcs .entry)) (now (arcs .exit))
+        × RightIfNew (now (were .entry)) (now (edges .entry)) (now (arcs .exit)) o i)
+        ⌝ }
 {
     if !is_new(were[i], edges[i]) {
         return;
@@ -153,10 +162,13 @@ fn zero_arcs(arcs: &mut [ArcRow], edges: &[EdgeRow], were: &[EdgeRow], i: usize)
     rows::put_row6(arcs, edges[i][2], [0; 6]);
 }
 
-// The same for every edge.
+// The rows of the arcs of every new edge become zero.
 fn zero_new(arcs: &mut [ArcRow], edges: &[EdgeRow], were: &[EdgeRow])
     requires { ⌜ length (now edges) ≡ length (now were) ⌝ }
-    ensures { λ _. ⌜ ((o : Table) → NewBlank (now (were .entry)) (now (edges .entry)) (now (arcs .entry)) o → Toward o (now (arcs .entry)) (now (arcs .exit)) × NewRight (now (were .entry)) (now (edges .entry)) (now (arcs .exit)) o) ⌝ }
+    ensures { λ _. ⌜
+        ((o : Table) → NewBlank (now (were .entry)) (now (edges .entry)) (now (arcs .entry)) o → Toward o (now (arcs .entry)) (now (arcs .exit))
+        × NewRight (now (were .entry)) (now (edges .entry)) (now (arcs .exit)) o)
+        ⌝ }
 {
     let mut i: usize = 0;
     while i < edges.len() {
@@ -175,7 +187,10 @@ pub fn put_back(
     were: &[EdgeRow],
 )
     requires { ⌜ (length (now arcs) ≡ length (now kept)) × (length (now edges) ≡ length (now were)) ⌝ }
-    ensures { λ _. ⌜ ((o : Table) → Undoable o (now (arcs .entry)) (now (kept .entry)) (now (list .entry)) n (now (edges .entry)) (now (were .entry)) → now (arcs .exit) ≡ o) ⌝ }
+    ensures { λ _. ⌜
+        ((o : Table) → Undoable o (now (arcs .entry)) (now (kept .entry)) (now (list .entry)) n (now (edges .entry)) (now (were .entry)) →
+        now (arcs .exit) ≡ o)
+        ⌝ }
 {
     copy_rows(arcs, kept, list, n);
     zero_new(arcs, edges, were);

@@ -38,7 +38,10 @@ fn known_marks(seen: [bool; MARKS])
 // The vertices with at most 64 keys.
 fn mark_keys(seen: &mut [bool; MARKS], vertices: &[VertexRow], keys: &[u32])
     requires { ⌜ length (now keys) ≤ 64 ⌝ }
-    ensures { λ _. ⌜ ((p : List (List Float)) (a e f : Table) (k : List ℕ) → Marks (now (seen .entry)) (now (seen .exit)) (byKeys (mesh (now (vertices .entry)) p a e f k) (now (keys .entry)))) ⌝ }
+    ensures { λ _. ⌜
+        ((p : List (List Float)) (a e f : Table) (k : List ℕ) →
+        Marks (now (seen .entry)) (now (seen .exit)) (byKeys (mesh (now (vertices .entry)) p a e f k) (now (keys .entry))))
+        ⌝ }
 {
     known_marks(*seen);
     let names = lists::from_keys(keys);
@@ -47,7 +50,11 @@ fn mark_keys(seen: &mut [bool; MARKS], vertices: &[VertexRow], keys: &[u32])
 
 // The vertices of the ring of the face with a key.
 fn mark_ring(seen: &mut [bool; MARKS], arcs: &[ArcRow], faces: &[FaceRow], key: u32)
-    ensures { λ _. ⌜ ((v : Table) (p : List (List Float)) (e : Table) (k : List ℕ) → Marks (now (seen .entry)) (now (seen .exit)) (ringVertices (mesh v p (now (arcs .entry)) e (now (faces .entry)) k) (findKey (now (faces .entry)) key))) ⌝ }
+    ensures { λ _. ⌜
+        ((v : Table) (p : List (List Float)) (e : Table) (k : List ℕ) →
+        Marks (now (seen .entry)) (now (seen .exit))
+        (ringVertices (mesh v p (now (arcs .entry)) e (now (faces .entry)) k) (findKey (now (faces .entry)) key)))
+        ⌝ }
 {
     known_marks(*seen);
     let f = rows::find_key3(faces, key);
@@ -64,7 +71,11 @@ pub fn mark_edit(
     keys: &[u32],
 )
     requires { ⌜ ((mark : ℕ) → edit ≡ FaceInsert mark → length (now keys) ≤ 64) ⌝ }
-    ensures { λ _. ⌜ ((p : List (List Float)) (e : Table) (k : List ℕ) → Marks (now (seen .entry)) (now (seen .exit)) (among (mesh (now (vertices .entry)) p (now (arcs .entry)) e (now (faces .entry)) k) edit (now (keys .entry)))) ⌝ }
+    ensures { λ _. ⌜
+        ((p : List (List Float)) (e : Table) (k : List ℕ) →
+        Marks (now (seen .entry)) (now (seen .exit))
+        (among (mesh (now (vertices .entry)) p (now (arcs .entry)) e (now (faces .entry)) k) edit (now (keys .entry))))
+        ⌝ }
 {
     match edit {
         Edit::VertexInsert(_) => {}

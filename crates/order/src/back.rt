@@ -12,6 +12,7 @@ ghost use mathlib.Core.Path.{_≡_};
 ghost use mathlib.Core.List.{[]};
 ghost use Rattle.rules.specs.Table.{Table};
 ghost use Rattle.rules.specs.Mesh.{mesh};
+ghost use Rattle.rules.specs.Lent.{unlent, meshBefore, meshAfter};
 ghost use Rattle.nearby.specs.Rows.{Undoable};
 ghost use Rattle.order.specs.Transaction.{SameSize, KeptIn};
 
@@ -29,7 +30,9 @@ pub fn keep(
     n: usize,
 )
     requires { ⌜ SameSize (mesh (now vertices) [] (now arcs) (now edges) (now faces) []) (mesh (now v) [] (now a) (now e) (now f) []) ⌝ }
-    ensures { λ _. ⌜ KeptIn (mesh (now (vertices .entry)) [] (now (arcs .entry)) (now (edges .entry)) (now (faces .entry)) []) (mesh (now (v .exit)) [] (now (a .exit)) (now (e .exit)) (now (f .exit)) []) (now (list .entry)) n ⌝ }
+    ensures { λ _. ⌜
+        KeptIn (meshBefore vertices (unlent []) arcs edges faces (unlent [])) (meshAfter v (unlent []) a e f (unlent [])) (now (list .entry)) n
+        ⌝ }
 {
     sets::copy2(v, vertices);
     rows::copy_rows(a, arcs, list, n);
@@ -51,7 +54,10 @@ pub fn put_back(
     n: usize,
 )
     requires { ⌜ SameSize (mesh (now vertices) [] (now arcs) (now edges) (now faces) []) (mesh (now v) [] (now a) (now e) (now f) []) ⌝ }
-    ensures { λ _. ⌜ ((o : Table) → Undoable o (now (arcs .entry)) (now (a .entry)) (now (list .entry)) n (now (edges .entry)) (now (e .entry)) → mesh (now (vertices .exit)) [] (now (arcs .exit)) (now (edges .exit)) (now (faces .exit)) [] ≡ mesh (now (v .entry)) [] o (now (e .entry)) (now (f .entry)) []) ⌝ }
+    ensures { λ _. ⌜
+        ((o : Table) → Undoable o (now (arcs .entry)) (now (a .entry)) (now (list .entry)) n (now (edges .entry)) (now (e .entry)) →
+        meshAfter vertices (unlent []) arcs edges faces (unlent []) ≡ mesh (now (v .entry)) [] o (now (e .entry)) (now (f .entry)) [])
+        ⌝ }
 {
     rows::put_back(arcs, a, list, n, edges, e);
     sets::copy2(vertices, v);

@@ -17,7 +17,7 @@ ghost use Prim.Native.Nat.{ℕ, _≤_};
 ghost use lib.ListN.{length};
 ghost use lib.Ieee.{Float};
 ghost use Rattle.rules.specs.declared.Edit.the-variants.{FaceInsert};
-ghost use Rattle.rules.specs.Mesh.{mesh, room};
+ghost use Rattle.rules.specs.Lent.{unlent, meshBefore, roomBefore};
 ghost use Rattle.rules.specs.Call.{ready, roomFor, need};
 ghost use Rattle.order.specs.Transaction.{beforeWork};
 
@@ -40,7 +40,7 @@ pub fn is_ready(
     e2: &[EdgeRow],
     f2: &[FaceRow],
 ) -> bool
-    ensures { λ r. ⌜ r ≡ ready (mesh (now (vertices .entry)) (now (positions .entry)) (now (arcs .entry)) (now (edges .entry)) (now (faces .entry)) (now (counters .entry))) (room (now (v1 .entry)) (now (p1 .entry)) (now (a1 .entry)) (now (e1 .entry)) (now (f1 .entry))) (room (now (v2 .entry)) (now (p2 .entry)) (now (a2 .entry)) (now (e2 .entry)) (now (f2 .entry))) ⌝ }
+    ensures { λ r. ⌜ r ≡ ready (meshBefore vertices positions arcs edges faces counters) (roomBefore v1 p1 a1 e1 f1) (roomBefore v2 p2 a2 e2 f2) ⌝ }
 {
     if !sets::room_enough(vertices, positions, arcs, edges, faces, v1, p1, a1, e1, f1) {
         return false;
@@ -62,7 +62,11 @@ fn has_room(
     edit: Edit,
     keys: &[u32],
 ) -> bool
-    ensures { λ r. ⌜ (((mark : ℕ) → edit ≡ FaceInsert mark → length (now (keys .entry)) ≤ 64) → (ps : List (List Float)) → r ≡ roomFor (mesh (now (vertices .entry)) ps (now (arcs .entry)) (now (edges .entry)) (now (faces .entry)) (now (counters .entry))) (need (mesh (now (vertices .entry)) ps (now (arcs .entry)) (now (edges .entry)) (now (faces .entry)) (now (counters .entry))) edit (now (keys .entry)))) ⌝ }
+    ensures { λ r. ⌜
+        (((mark : ℕ) → edit ≡ FaceInsert mark → length (now (keys .entry)) ≤ 64) → (ps : List (List Float)) →
+        r ≡ roomFor (meshBefore vertices (unlent ps) arcs edges faces counters)
+        (need (meshBefore vertices (unlent ps) arcs edges faces counters) edit (now (keys .entry))))
+        ⌝ }
 {
     let most = checks::call::most_of(arcs, faces, edit, keys);
     if checks::call::room_for(vertices, edges, faces, counters, most) {
@@ -83,7 +87,7 @@ pub fn decide(
     edit: Edit,
     keys: &[u32],
 ) -> Answer
-    ensures { λ r. ⌜ r ≡ beforeWork (mesh (now (vertices .entry)) (now (positions .entry)) (now (arcs .entry)) (now (edges .entry)) (now (faces .entry)) (now (counters .entry))) edit (now (keys .entry)) ⌝ }
+    ensures { λ r. ⌜ r ≡ beforeWork (meshBefore vertices positions arcs edges faces counters) edit (now (keys .entry)) ⌝ }
 {
     if !checks::call::given(edit, keys) {
         return Answer::Refused(Refusal::Argument);

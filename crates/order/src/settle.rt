@@ -16,7 +16,7 @@ ghost use mathlib.Core.Path.{_≡_};
 ghost use mathlib.Core.Bool.{true};
 ghost use Prim.Native.Nat.{_≤_};
 ghost use lib.ListN.{length, take};
-ghost use Rattle.rules.specs.Mesh.{mesh};
+ghost use Rattle.rules.specs.Lent.{meshNow, meshBefore};
 ghost use Rattle.rules.specs.Step.{step, accepted};
 ghost use Rattle.rules.specs.Sound.{sound};
 ghost use Rattle.rules.specs.Call.{worked};
@@ -53,8 +53,11 @@ fn sound_after(
     n: usize,
     from: u32,
 ) -> bool
-    requires { ⌜ (n ≤ 2048 → (length (now faces) ≤ 4096) × (ringsHold (now arcs) (now faces) (take n (now list)) from ≡ sound (mesh (now vertices) (now positions) (now arcs) (now edges) (now faces) (now counters)))) ⌝ }
-    ensures { λ r. ⌜ r ≡ sound (mesh (now (vertices .entry)) (now (positions .entry)) (now (arcs .entry)) (now (edges .entry)) (now (faces .entry)) (now (counters .entry))) ⌝ }
+    requires { ⌜
+        (n ≤ 2048 → (length (now faces) ≤ 4096)
+        × (ringsHold (now arcs) (now faces) (take n (now list)) from ≡ sound (meshNow vertices positions arcs edges faces counters)))
+        ⌝ }
+    ensures { λ r. ⌜ r ≡ sound (meshBefore vertices positions arcs edges faces counters) ⌝ }
 {
     if n > LISTED {
         return sound::queries::is_sound(vertices, positions, arcs, edges, faces, counters);
@@ -75,8 +78,11 @@ pub fn judged(
     from: u32,
     told: Answer,
 ) -> Answer
-    requires { ⌜ (accepted told ≡ true → n ≤ 2048 → (length (now faces) ≤ 4096) × (ringsHold (now arcs) (now faces) (take n (now list)) from ≡ sound (mesh (now vertices) (now positions) (now arcs) (now edges) (now faces) (now counters)))) ⌝ }
-    ensures { λ r. ⌜ r ≡ worked (step (mesh (now (vertices .entry)) (now (positions .entry)) (now (arcs .entry)) (now (edges .entry)) (now (faces .entry)) (now (counters .entry))) told) .answer ⌝ }
+    requires { ⌜
+        (accepted told ≡ true → n ≤ 2048 → (length (now faces) ≤ 4096)
+        × (ringsHold (now arcs) (now faces) (take n (now list)) from ≡ sound (meshNow vertices positions arcs edges faces counters)))
+        ⌝ }
+    ensures { λ r. ⌜ r ≡ worked (step (meshBefore vertices positions arcs edges faces counters) told) .answer ⌝ }
 {
     if !answers::accepted(told) {
         return told;

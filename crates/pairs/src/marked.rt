@@ -54,7 +54,7 @@ fn skip_rows(arcs: &[ArcRow], seen: &[bool; MARKS], from: usize) -> usize
     i
 }
 
-// The same, by blocks as far as they have no mark.
+// The first row from here on whose source has a mark, by blocks as far as they have none.
 pub fn skip(arcs: &[ArcRow], seen: &[bool; MARKS], from: usize) -> usize
     requires { ⌜ from ≤ length (now arcs) ⌝ }
     ensures { λ r. ⌜ Reached (now (arcs .entry)) (now (seen .entry)) from r ⌝ }

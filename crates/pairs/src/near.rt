@@ -40,7 +40,7 @@ pub struct Nearby {
     pub chained: usize,
 }
 
-// The same during the pass, and how many unused rows are left to list.
+// What Nearby holds, during the pass, and how many unused rows are left to list.
 struct Met {
     len: usize,
     spare: u32,
@@ -108,7 +108,10 @@ fn no_chains(near: &mut [u32; NEAR])
 // The link at place n, of a row that leaves s, chained where all before it are: how many are chained then.
 fn chain(near: &mut [u32; NEAR], s: u32, n: usize, chained: usize) -> usize
     requires { ⌜ n < 1024 ⌝ }
-    ensures { λ r. ⌜ ((chained ≡ n → ⊥) → (r ≡ chained) × (now (near .exit) ≡ now (near .entry))) × (chained ≡ n → (r ≡ n + 1) × (now (near .exit) ≡ chainedAt (now (near .entry)) n s)) ⌝ }
+    ensures { λ r. ⌜
+        ((chained ≡ n → ⊥) → (r ≡ chained) × (now (near .exit) ≡ now (near .entry)))
+        × (chained ≡ n → (r ≡ n + 1) × (now (near .exit) ≡ chainedAt (now (near .entry)) n s))
+        ⌝ }
 {
     if chained != n {
         return chained;
@@ -124,7 +127,12 @@ fn chain(near: &mut [u32; NEAR], s: u32, n: usize, chained: usize) -> usize
 // Row i listed, but an unused row only while such are left to list.
 fn meet(near: &mut [u32; NEAR], arcs: &[ArcRow], i: usize, m: Met) -> Met
     requires { ⌜ (i < length (now arcs)) × ((length (now arcs) ≤ 16384) × (m .len < 1024)) ⌝ }
-    ensures { λ r. ⌜ ((seen : List Bool) → ListedTo (now (arcs .entry)) seen (take (m .len) (now (near .entry))) i (m .spare) (m .first) (m .left) (m .used) → ListedTo (now (arcs .entry)) seen (take (r .len) (now (near .exit))) (i + 1) (r .spare) (r .first) (r .left) (r .used)) × (m .chained ≤ m .len → Chained (now (arcs .entry)) (now (near .entry)) (m .chained) → (r .chained ≤ r .len) × Chained (now (arcs .entry)) (now (near .exit)) (r .chained)) ⌝ }
+    ensures { λ r. ⌜
+        ((seen : List Bool) → ListedTo (now (arcs .entry)) seen (take (m .len) (now (near .entry))) i (m .spare) (m .first) (m .left) (m .used) →
+        ListedTo (now (arcs .entry)) seen (take (r .len) (now (near .exit))) (i + 1) (r .spare) (r .first) (r .left) (r .used))
+        × (m .chained ≤ m .len → Chained (now (arcs .entry)) (now (near .entry)) (m .chained) → (r .chained ≤ r .len)
+        × Chained (now (arcs .entry)) (now (near .exit)) (r .chained))
+        ⌝ }
 {
     known_near(*near);
     let x = i as u32 + 1;
@@ -175,7 +183,10 @@ pub fn list_near(
     seen: &[bool; MARKS],
     rows: usize,
 ) -> Nearby
-    ensures { λ r. ⌜ Near (now (arcs .entry)) (now (seen .entry)) (now (near .exit)) r × ((k : ℕ) → k + 1 < r .first → unused (getD (now (arcs .entry)) k []) ≡ false) ⌝ }
+    ensures { λ r. ⌜
+        Near (now (arcs .entry)) (now (seen .entry)) (now (near .exit)) r
+        × ((k : ℕ) → k + 1 < r .first → unused (getD (now (arcs .entry)) k []) ≡ false)
+        ⌝ }
 {
     if arcs.len() > ROW_LIMIT {
         return nothing_listed();
@@ -311,7 +322,11 @@ fn arc_listed(
     a: u32,
     b: u32,
 ) -> u32
-    requires { ⌜ (n ≤ 1024) × ((length (now arcs) ≤ 16384) × (((chained ≤ n) × Chained (now arcs) (now near) chained) × (Ends (now arcs) (take n (now near)) used × AllFrom (now arcs) (take n (now near)) a))) ⌝ }
+    requires { ⌜
+        (n ≤ 1024) × ((length (now arcs) ≤ 16384)
+        × (((chained ≤ n) × Chained (now arcs) (now near) chained)
+        × (Ends (now arcs) (take n (now near)) used × AllFrom (now arcs) (take n (now near)) a)))
+        ⌝ }
     ensures { λ r. ⌜ r ≡ arcBetween (now (arcs .entry)) a b ⌝ }
 {
     if a == 0 {
@@ -408,7 +423,12 @@ fn few_listed(
     used: usize,
     chained: usize,
 ) -> Links
-    requires { ⌜ (n ≤ 1024) × ((length (now arcs) ≤ 16384) × (((chained ≤ n) × Chained (now arcs) (now near) chained) × (Ends (now arcs) (take n (now near)) used × ((i : ℕ) → i < length (listOf per) → AllFrom (now arcs) (take n (now near)) (getD (listOf per) i 0))))) ⌝ }
+    requires { ⌜
+        (n ≤ 1024) × ((length (now arcs) ≤ 16384)
+        × (((chained ≤ n) × Chained (now arcs) (now near) chained)
+        × (Ends (now arcs) (take n (now near)) used
+        × ((i : ℕ) → i < length (listOf per) → AllFrom (now arcs) (take n (now near)) (getD (listOf per) i 0)))))
+        ⌝ }
     requires { ⌜ length (listOf per) ≤ 4 ⌝ }
     ensures { λ r. ⌜ r ≡ linksOf (arcsOf (now (arcs .entry)) (listOf per)) ⌝ }
 {
@@ -434,7 +454,7 @@ fn few_listed(
     Links { at, len: size }
 }
 
-// The same for any number of pairs. The vertices are marked first, and only an arc whose source has a mark is compared with the pairs.
+// The listed arcs of any number of pairs. The vertices are marked first, and only an arc whose source has a mark is compared with the pairs.
 fn arcs_listed(
     arcs: &[ArcRow],
     per: Links,
@@ -443,7 +463,12 @@ fn arcs_listed(
     used: usize,
     chained: usize,
 ) -> Links
-    requires { ⌜ (n ≤ 1024) × ((length (now arcs) ≤ 16384) × (((chained ≤ n) × Chained (now arcs) (now near) chained) × (Ends (now arcs) (take n (now near)) used × ((i : ℕ) → i < length (listOf per) → AllFrom (now arcs) (take n (now near)) (getD (listOf per) i 0))))) ⌝ }
+    requires { ⌜
+        (n ≤ 1024) × ((length (now arcs) ≤ 16384)
+        × (((chained ≤ n) × Chained (now arcs) (now near) chained)
+        × (Ends (now arcs) (take n (now near)) used
+        × ((i : ℕ) → i < length (listOf per) → AllFrom (now arcs) (take n (now near)) (getD (listOf per) i 0)))))
+        ⌝ }
     ensures { λ r. ⌜ r ≡ linksOf (arcsOf (now (arcs .entry)) (listOf per)) ⌝ }
 {
     let size = lists::size(per);

@@ -23,7 +23,8 @@ ghost use Prim.Native.Nat.{ℕ, _<_};
 ghost use lib.ListN.{length, getD};
 ghost use lib.Ieee.{Float};
 ghost use Rattle.rules.specs.Table.{after};
-ghost use Rattle.rules.specs.Mesh.{mesh, linksOf, listOf};
+ghost use Rattle.rules.specs.Mesh.{linksOf, listOf};
+ghost use Rattle.rules.specs.Lent.{unlent, meshBefore, meshAfter};
 ghost use Rattle.rules.specs.Step.{step};
 ghost use Rattle.rules.specs.Insert.{insertFace};
 ghost use Rattle.rules.specs.Edit.{pokeWork};
@@ -62,7 +63,12 @@ fn parts_in(
 ) -> Answer
     requires { ⌜ (length (now past) ≡ length (now arcs)) × (length (now pastedges) ≡ length (now edges)) ⌝ }
     requires { ⌜ Known (now arcs) (now edges) (now faces) (now seen) (now near) around ⌝ }
-    ensures { λ r. ⌜ ((p : List (List Float)) → step (mesh (now (vertices .exit)) p (now (arcs .exit)) (now (edges .exit)) (now (faces .exit)) (now (counters .exit))) r ≡ eachIn (λ i a. insertFace a (getD (listOf vs) i 0 ∷ getD (listOf vs) (after (length (listOf vs)) i) 0 ∷ c ∷ []) mark) (length (listOf vs)) (mesh (now (vertices .entry)) p (now (arcs .entry)) (now (edges .entry)) (now (faces .entry)) (now (counters .entry)))) ⌝ }
+    ensures { λ r. ⌜
+        ((p : List (List Float)) →
+        step (meshAfter vertices (unlent p) arcs edges faces counters) r
+        ≡ eachIn (λ i a. insertFace a (getD (listOf vs) i 0 ∷ getD (listOf vs) (after (length (listOf vs)) i) 0 ∷ c ∷ []) mark) (length (listOf vs))
+        (meshBefore vertices (unlent p) arcs edges faces counters))
+        ⌝ }
 {
     let n = lists::size(vs);
     let mut i: usize = 0;
@@ -89,7 +95,7 @@ fn parts_in(
     Answer::Done
 }
 
-// The same, with one list of the arcs near the ring and the new vertex.
+// The faces (a, b, c) of all ring pairs. The arcs near the ring and the new vertex are listed once, before the first.
 fn parts_near(
     vertices: &mut [VertexRow],
     arcs: &mut [ArcRow],
@@ -103,7 +109,12 @@ fn parts_near(
     mark: u32,
 ) -> Answer
     requires { ⌜ (length (now past) ≡ length (now arcs)) × (length (now pastedges) ≡ length (now edges)) ⌝ }
-    ensures { λ r. ⌜ ((p : List (List Float)) → step (mesh (now (vertices .exit)) p (now (arcs .exit)) (now (edges .exit)) (now (faces .exit)) (now (counters .exit))) r ≡ eachIn (λ i a. insertFace a (getD (listOf vs) i 0 ∷ getD (listOf vs) (after (length (listOf vs)) i) 0 ∷ c ∷ []) mark) (length (listOf vs)) (mesh (now (vertices .entry)) p (now (arcs .entry)) (now (edges .entry)) (now (faces .entry)) (now (counters .entry)))) ⌝ }
+    ensures { λ r. ⌜
+        ((p : List (List Float)) →
+        step (meshAfter vertices (unlent p) arcs edges faces counters) r
+        ≡ eachIn (λ i a. insertFace a (getD (listOf vs) i 0 ∷ getD (listOf vs) (after (length (listOf vs)) i) 0 ∷ c ∷ []) mark) (length (listOf vs))
+        (meshBefore vertices (unlent p) arcs edges faces counters))
+        ⌝ }
 {
     lists::known_few(vs);
     let made = lists::size(vs);
@@ -142,7 +153,11 @@ pub fn poke_work(
     position: Position,
 ) -> Answer
     requires { ⌜ (length (now past) ≡ length (now arcs)) × (length (now pastedges) ≡ length (now edges)) ⌝ }
-    ensures { λ r. ⌜ (step (mesh (now (vertices .exit)) (now (positions .exit)) (now (arcs .exit)) (now (edges .exit)) (now (faces .exit)) (now (counters .exit))) r ≡ pokeWork (mesh (now (vertices .entry)) (now (positions .entry)) (now (arcs .entry)) (now (edges .entry)) (now (faces .entry)) (now (counters .entry))) f position) × Kept (now (vertices .entry)) (now (positions .entry)) (now (positions .exit)) ⌝ }
+    ensures { λ r. ⌜
+        (step (meshAfter vertices positions arcs edges faces counters) r
+        ≡ pokeWork (meshBefore vertices positions arcs edges faces counters) f position)
+        × Kept (now (vertices .entry)) (now (positions .entry)) (now (positions .exit))
+        ⌝ }
 {
     let vs = checks::rings::vertices_of(arcs, faces, f);
     let mark = rows::cell3(faces, f, 2);

@@ -105,7 +105,7 @@ pub fn ended(s: Stand) -> Stand {
     }
 }
 
-// The same, of a case that differed.
+// The end of a case that differed.
 pub fn ended_differing(s: Stand) -> Stand {
     let e = ended(s);
     Stand {

@@ -1,5 +1,6 @@
 pub mod Table
 pub mod Mesh
+pub mod Lent
 pub mod Point
 pub mod Link
 pub mod Step

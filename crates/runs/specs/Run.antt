@@ -29,7 +29,7 @@ ranFor m one two (says e keys) = answered e (called m one two (call e) keys)
 unfoldable pub ranLine : Mesh → Room → Room → Text → Ran
 ranLine m one two text = ranFor m one two (lineIn text)
 
--- the same with the text in a buffer, from a place on
+-- what a line leaves, with its text in a buffer from a place on
 pub record Printed : Type 0 where
   pub buffer : Written
   pub mesh : Mesh

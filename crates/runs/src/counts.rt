@@ -38,7 +38,11 @@ pub fn put_counts(
 ) -> usize
     requires { ⌜ (length (now vertices) ≤ 8192) × (length (now edges) ≤ 8192) ⌝ }
     requires { ⌜ (length (now faces) ≤ 8192) × (64 ≤ length (now out)) ⌝ }
-    ensures { λ r. ⌜ written (now (out .exit)) r ≡ wrote (now (out .entry)) 0 (endLine (count used (now (vertices .entry))) (count used (now (edges .entry))) (count used (now (faces .entry)))) ⌝ }
+    ensures { λ r. ⌜
+        written (now (out .exit)) r
+        ≡ wrote (now (out .entry)) 0
+        (endLine (count used (now (vertices .entry))) (count used (now (edges .entry))) (count used (now (faces .entry))))
+        ⌝ }
     ensures short { λ r. ⌜ r ≤ 64 ⌝ }
 {
     texts::put_end(out, 0, used2(vertices), used3(edges), used3(faces))

@@ -14,7 +14,7 @@ ghost use Prim.Native.Nat.{_+_, _*_, _≤_, _<_};
 ghost use lib.ListN.{length, take};
 ghost use mathlib.Core.Bool.{cond};
 ghost use lib.Dec.{eqb};
-ghost use Rattle.rules.specs.Mesh.{mesh, room};
+ghost use Rattle.rules.specs.Lent.{meshBefore, meshAfter, roomBefore, roomAfter};
 ghost use Rattle.script.specs.Texts.{written};
 ghost use Rattle.runs.specs.Gather.{lacking};
 ghost use Rattle.runs.specs.Feed.{handed, handedAt, unwritten, fed, lineFed};
@@ -46,7 +46,13 @@ fn feed_line(
 ) -> Fed
     requires { ⌜ held ≤ 513 ⌝ }
     requires { ⌜ at + 64 ≤ length (now out) ⌝ }
-    ensures { λ r. ⌜ handed (r .next) (written (now (out .exit)) (r .at)) (mesh (now (vertices .exit)) (now (positions .exit)) (now (arcs .exit)) (now (edges .exit)) (now (faces .exit)) (now (counters .exit))) (room (now (v1 .exit)) (now (p1 .exit)) (now (a1 .exit)) (now (e1 .exit)) (now (f1 .exit))) (room (now (v2 .exit)) (now (p2 .exit)) (now (a2 .exit)) (now (e2 .exit)) (now (f2 .exit))) (written (now (line .exit)) (r .held)) ≡ lineFed (now (chunk .entry)) from (now (out .entry)) at (unwritten (mesh (now (vertices .entry)) (now (positions .entry)) (now (arcs .entry)) (now (edges .entry)) (now (faces .entry)) (now (counters .entry))) (room (now (v1 .entry)) (now (p1 .entry)) (now (a1 .entry)) (now (e1 .entry)) (now (f1 .entry))) (room (now (v2 .entry)) (now (p2 .entry)) (now (a2 .entry)) (now (e2 .entry)) (now (f2 .entry))) (written (now (line .entry)) held)) ⌝ }
+    ensures { λ r. ⌜
+        handed (r .next) (written (now (out .exit)) (r .at)) (meshAfter vertices positions arcs edges faces counters) (roomAfter v1 p1 a1 e1 f1)
+        (roomAfter v2 p2 a2 e2 f2) (written (now (line .exit)) (r .held))
+        ≡ lineFed (now (chunk .entry)) from (now (out .entry)) at
+        (unwritten (meshBefore vertices positions arcs edges faces counters) (roomBefore v1 p1 a1 e1 f1) (roomBefore v2 p2 a2 e2 f2)
+        (written (now (line .entry)) held))
+        ⌝ }
     ensures few { λ r. ⌜ r .held ≤ 513 ⌝ }
     ensures short { λ r. ⌜ r .at ≤ at + 64 ⌝ }
 {
@@ -110,7 +116,15 @@ pub fn feed(
 ) -> Fed
     requires { ⌜ held ≤ 513 ⌝ }
     requires { ⌜ 64 * length (now chunk) ≤ length (now out) ⌝ }
-    ensures { λ r. ⌜ handed (r .next) (written (now (out .exit)) (r .at)) (mesh (now (vertices .exit)) (now (positions .exit)) (now (arcs .exit)) (now (edges .exit)) (now (faces .exit)) (now (counters .exit))) (room (now (v1 .exit)) (now (p1 .exit)) (now (a1 .exit)) (now (e1 .exit)) (now (f1 .exit))) (room (now (v2 .exit)) (now (p2 .exit)) (now (a2 .exit)) (now (e2 .exit)) (now (f2 .exit))) (written (now (line .exit)) (r .held)) ≡ handedAt (length (now (chunk .entry))) (now (out .entry)) 0 (fed (unwritten (mesh (now (vertices .entry)) (now (positions .entry)) (now (arcs .entry)) (now (edges .entry)) (now (faces .entry)) (now (counters .entry))) (room (now (v1 .entry)) (now (p1 .entry)) (now (a1 .entry)) (now (e1 .entry)) (now (f1 .entry))) (room (now (v2 .entry)) (now (p2 .entry)) (now (a2 .entry)) (now (e2 .entry)) (now (f2 .entry))) (written (now (line .entry)) held)) (now (chunk .entry))) ⌝ }
+    ensures { λ r. ⌜
+        handed (r .next) (written (now (out .exit)) (r .at)) (meshAfter vertices positions arcs edges faces counters) (roomAfter v1 p1 a1 e1 f1)
+        (roomAfter v2 p2 a2 e2 f2) (written (now (line .exit)) (r .held))
+        ≡ handedAt (length (now (chunk .entry))) (now (out .entry)) 0
+        (fed
+        (unwritten (meshBefore vertices positions arcs edges faces counters) (roomBefore v1 p1 a1 e1 f1) (roomBefore v2 p2 a2 e2 f2)
+        (written (now (line .entry)) held))
+        (now (chunk .entry)))
+        ⌝ }
     ensures few { λ r. ⌜ r .held ≤ 513 ⌝ }
     ensures short { λ r. ⌜ r .at ≤ 64 * length (now (chunk .entry)) ⌝ }
 {

@@ -25,7 +25,10 @@ fn hold(line: &mut [u8; HELD], held: usize, b: u8) -> usize
 // The bytes of a chunk from a place on, up to the next newline, which is passed by, or to the chunk's end.
 pub fn gather(chunk: &[u8], from: usize, line: &mut [u8; HELD], held: usize) -> Gathered
     requires { ⌜ held ≤ 513 ⌝ }
-    ensures { λ r. ⌜ gathering (r .next) (written (now (line .exit)) (r .held)) (r .ended) ≡ gatheredFrom from (written (now (line .entry)) held) (drop from (now (chunk .entry))) ⌝ }
+    ensures { λ r. ⌜
+        gathering (r .next) (written (now (line .exit)) (r .held)) (r .ended)
+        ≡ gatheredFrom from (written (now (line .entry)) held) (drop from (now (chunk .entry)))
+        ⌝ }
     ensures few { λ r. ⌜ r .held ≤ 513 ⌝ }
 {
     let mut n = held;

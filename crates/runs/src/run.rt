@@ -15,7 +15,7 @@ use script::texts;
 ghost use mathlib.Core.Path.{_≡_};
 ghost use Prim.Native.Nat.{_+_, _≤_};
 ghost use lib.ListN.{length};
-ghost use Rattle.rules.specs.Mesh.{mesh, room};
+ghost use Rattle.rules.specs.Lent.{meshBefore, meshAfter, roomBefore, roomAfter};
 ghost use Rattle.script.specs.Texts.{written};
 ghost use Rattle.runs.specs.Run.{ranLine, printed, printedAt};
 
@@ -43,7 +43,13 @@ pub fn run_line(
     at: usize,
 ) -> usize
     requires { ⌜ at + 64 ≤ length (now out) ⌝ }
-    ensures { λ r. ⌜ printed (written (now (out .exit)) r) (mesh (now (vertices .exit)) (now (positions .exit)) (now (arcs .exit)) (now (edges .exit)) (now (faces .exit)) (now (counters .exit))) (room (now (v1 .exit)) (now (p1 .exit)) (now (a1 .exit)) (now (e1 .exit)) (now (f1 .exit))) (room (now (v2 .exit)) (now (p2 .exit)) (now (a2 .exit)) (now (e2 .exit)) (now (f2 .exit))) ≡ printedAt (now (out .entry)) at (ranLine (mesh (now (vertices .entry)) (now (positions .entry)) (now (arcs .entry)) (now (edges .entry)) (now (faces .entry)) (now (counters .entry))) (room (now (v1 .entry)) (now (p1 .entry)) (now (a1 .entry)) (now (e1 .entry)) (now (f1 .entry))) (room (now (v2 .entry)) (now (p2 .entry)) (now (a2 .entry)) (now (e2 .entry)) (now (f2 .entry))) (now (line .entry))) ⌝ }
+    ensures { λ r. ⌜
+        printed (written (now (out .exit)) r) (meshAfter vertices positions arcs edges faces counters) (roomAfter v1 p1 a1 e1 f1)
+        (roomAfter v2 p2 a2 e2 f2)
+        ≡ printedAt (now (out .entry)) at
+        (ranLine (meshBefore vertices positions arcs edges faces counters) (roomBefore v1 p1 a1 e1 f1) (roomBefore v2 p2 a2 e2 f2)
+        (now (line .entry)))
+        ⌝ }
     ensures short { λ r. ⌜ r ≤ at + 64 ⌝ }
 {
     let parsed = lines::read_line(line);

@@ -20,7 +20,7 @@ pub fn line_of<'a>(text: &'a [u8]) -> Line<'a>
     Line { text, at: 0 }
 }
 
-// The same line, at another place.
+// That line, at another place.
 pub fn moved<'a>(r: Line<'a>, at: usize) -> Line<'a>
     ensures { λ q. ⌜ (q .text ≡ r .entry .text) × (q .at ≡ at) ⌝ }
 {

@@ -139,7 +139,7 @@ fn walked_length(sources: &mut [u32; RING], arcs: &[ArcRow], first: u32, f: usiz
     0
 }
 
-// The same, at once where the ring has three arcs or four (short.rt), as most have.
+// The length of the ring, or 0 where it is none: told at once where it has three arcs or four (short.rt), as most have.
 fn linked_length(sources: &mut [u32; RING], arcs: &[ArcRow], first: u32, f: usize) -> usize
     ensures { λ r. ⌜ ((m : Mesh) → m .arcs ≡ now (arcs .entry) → faceArc m f ≡ first → r ≡ linkedLength m f) ⌝ }
 {
@@ -171,7 +171,12 @@ pub fn rings_sound(
     held: usize,
 ) -> passes::Rows
     requires { ⌜ held ≡ count holdsSome (now arcs) ⌝ }
-    ensures { λ r. ⌜ ((v : Table) (p : List (List Float)) (e : Table) → r .passed ≡ (facesSound (mesh v p (now (arcs .entry)) e (now (faces .entry)) (now (counters .entry))) && ringsFull (mesh v p (now (arcs .entry)) e (now (faces .entry)) (now (counters .entry))))) × (r .rising ≡ true → keysRise (now (faces .entry)) ≡ true) ⌝ }
+    ensures { λ r. ⌜
+        ((v : Table) (p : List (List Float)) (e : Table) →
+        r .passed ≡ (facesSound (mesh v p (now (arcs .entry)) e (now (faces .entry)) (now (counters .entry)))
+        && ringsFull (mesh v p (now (arcs .entry)) e (now (faces .entry)) (now (counters .entry)))))
+        × (r .rising ≡ true → keysRise (now (faces .entry)) ≡ true)
+        ⌝ }
 {
     let mut sources = [0u32; RING];
     let mut left = held;

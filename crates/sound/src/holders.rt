@@ -59,7 +59,7 @@ fn skip_rows(arcs: &[ArcRow], from: usize) -> usize
     i
 }
 
-// The same, by blocks as far as they hold faces.
+// The first row from here on that holds no face, by blocks as far as they hold faces.
 pub fn skip_held(arcs: &[ArcRow], from: usize) -> usize
     requires { ⌜ from ≤ length (now arcs) ⌝ }
     ensures { λ r. ⌜ HeldTo (now (arcs .entry)) from r ⌝ }

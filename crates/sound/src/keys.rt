@@ -53,7 +53,9 @@ pub fn still_rising(rising: bool, last: u32, first: u32) -> bool
 
 // The names of a table's rows, as many as the list has places.
 fn key_names2(names: &mut [u32], t: &[VertexRow])
-    ensures { λ _. ⌜ (length (now (t .entry)) ≤ length (now (names .entry)) → take (length (now (t .entry))) (now (names .exit)) ≡ firsts (now (t .entry))) ⌝ }
+    ensures { λ _. ⌜
+        (length (now (t .entry)) ≤ length (now (names .entry)) → take (length (now (t .entry))) (now (names .exit)) ≡ firsts (now (t .entry)))
+        ⌝ }
 {
     let n = names::lesser(names.len(), t.len());
     let mut i = 0;
@@ -64,7 +66,9 @@ fn key_names2(names: &mut [u32], t: &[VertexRow])
 }
 
 fn key_names3(names: &mut [u32], t: &[EdgeRow])
-    ensures { λ _. ⌜ (length (now (t .entry)) ≤ length (now (names .entry)) → take (length (now (t .entry))) (now (names .exit)) ≡ firsts (now (t .entry))) ⌝ }
+    ensures { λ _. ⌜
+        (length (now (t .entry)) ≤ length (now (names .entry)) → take (length (now (t .entry))) (now (names .exit)) ≡ firsts (now (t .entry)))
+        ⌝ }
 {
     let n = names::lesser(names.len(), t.len());
     let mut i = 0;
@@ -104,8 +108,15 @@ pub fn keys_differ(
     faces: &[FaceRow],
     ordered: Ordered,
 ) -> bool
-    requires { ⌜ (ordered .vertices ≡ true → keysRise (now vertices) ≡ true) × ((ordered .edges ≡ true → keysRise (now edges) ≡ true) × (ordered .faces ≡ true → keysRise (now faces) ≡ true)) ⌝ }
-    ensures { λ r. ⌜ ((p : List (List Float)) (a : Table) (k : List ℕ) → withinLimits (mesh (now (vertices .entry)) p a (now (edges .entry)) (now (faces .entry)) k) ≡ true → r ≡ keysDiffer (mesh (now (vertices .entry)) p a (now (edges .entry)) (now (faces .entry)) k)) ⌝ }
+    requires { ⌜
+        (ordered .vertices ≡ true → keysRise (now vertices) ≡ true)
+        × ((ordered .edges ≡ true → keysRise (now edges) ≡ true) × (ordered .faces ≡ true → keysRise (now faces) ≡ true))
+        ⌝ }
+    ensures { λ r. ⌜
+        ((p : List (List Float)) (a : Table) (k : List ℕ) →
+        withinLimits (mesh (now (vertices .entry)) p a (now (edges .entry)) (now (faces .entry)) k) ≡ true →
+        r ≡ keysDiffer (mesh (now (vertices .entry)) p a (now (edges .entry)) (now (faces .entry)) k))
+        ⌝ }
 {
     if !differ2(names, vertices, ordered.vertices) {
         return false;

@@ -20,6 +20,7 @@ ghost use lib.ListN.{length, take};
 ghost use lib.Ieee.{Float};
 ghost use Rattle.rules.specs.Table.{Table, count, used};
 ghost use Rattle.rules.specs.Mesh.{mesh};
+ghost use Rattle.rules.specs.Lent.{unlent, meshBefore};
 ghost use Rattle.sound.specs.Tests.{vertexTest, arcTest, edgeTest};
 ghost use Rattle.sound.specs.Names.{edgeName, keysRise};
 ghost use Rattle.sound.specs.Parts.{verticesSound, positionsSound, arcsSound, edgesSound, heldIf, usedIf};
@@ -74,7 +75,11 @@ fn edge_row(vertices: &[VertexRow], arcs: &[ArcRow], counter: u32, row: EdgeRow,
 // ---- every row
 
 pub fn vertices_sound(vertices: &[VertexRow], arcs: &[ArcRow], counters: &[u32; 3]) -> Rows
-    ensures { λ r. ⌜ ((p : List (List Float)) (e f : Table) → r .passed ≡ verticesSound (mesh (now (vertices .entry)) p (now (arcs .entry)) e f (now (counters .entry)))) × (r .rising ≡ true → keysRise (now (vertices .entry)) ≡ true) ⌝ }
+    ensures { λ r. ⌜
+        ((p : List (List Float)) (e f : Table) →
+        r .passed ≡ verticesSound (mesh (now (vertices .entry)) p (now (arcs .entry)) e f (now (counters .entry))))
+        × (r .rising ≡ true → keysRise (now (vertices .entry)) ≡ true)
+        ⌝ }
 {
     let mut rising = true;
     let mut last = 0;
@@ -124,7 +129,10 @@ fn plus(n: usize, so: bool) -> usize
 // passes: it is on a ring (faces.rt). Nearly all rows do, and a run of them is counted at once (holders.rt).
 pub fn arcs_held(arcs: &[ArcRow], named: usize) -> usize
     requires { ⌜ length (now arcs) ≤ 16384 ⌝ }
-    ensures { λ r. ⌜ ((v : Table) (p : List (List Float)) (e f : Table) (k : List ℕ) → named ≡ 2 * count used e → r ≡ heldIf (arcsSound (mesh v p (now (arcs .entry)) e f k)) (now (arcs .entry))) ⌝ }
+    ensures { λ r. ⌜
+        ((v : Table) (p : List (List Float)) (e f : Table) (k : List ℕ) → named ≡ 2 * count used e →
+        r ≡ heldIf (arcsSound (mesh v p (now (arcs .entry)) e f k)) (now (arcs .entry)))
+        ⌝ }
 {
     let mut held: usize = 0;
     let mut loose: usize = 0;
@@ -157,7 +165,12 @@ pub fn edges_named(
     counters: &[u32; 3],
 ) -> Named
     requires { ⌜ (length (now edges) ≤ 8192) × (length (now edges) ≤ length (now names)) ⌝ }
-    ensures { λ r. ⌜ ((p : List (List Float)) (f : Table) → r .there ≡ usedIf (edgesSound (mesh (now (vertices .entry)) p (now (arcs .entry)) (now (edges .entry)) f (now (counters .entry)))) (now (edges .entry))) × ((r .there ≡ 0 → ⊥) → take (length (now (edges .entry))) (now (names .exit)) ≡ map (edgeName (now (arcs .entry))) (now (edges .entry))) × (r .rising ≡ true → keysRise (now (edges .entry)) ≡ true) ⌝ }
+    ensures { λ r. ⌜
+        ((p : List (List Float)) (f : Table) →
+        r .there ≡ usedIf (edgesSound (meshBefore vertices (unlent p) arcs edges (unlent f) counters)) (now (edges .entry)))
+        × ((r .there ≡ 0 → ⊥) → take (length (now (edges .entry))) (now (names .exit)) ≡ map (edgeName (now (arcs .entry))) (now (edges .entry)))
+        × (r .rising ≡ true → keysRise (now (edges .entry)) ≡ true)
+        ⌝ }
 {
     let mut there: usize = 0;
     let mut rising = true;

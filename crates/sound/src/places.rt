@@ -13,7 +13,9 @@ ghost use Rattle.sound.specs.Parts.{Placed, PlacedTo};
 // Whether the eight rows from i on are vertices, with finite coordinates.
 fn block_used(vertices: &[VertexRow], positions: &[PositionRow], i: usize) -> bool
     requires { ⌜ (i + 8 ≤ length (now vertices)) × (i + 8 ≤ length (now positions)) ⌝ }
-    ensures { λ r. ⌜ (r ≡ true → Placed (now (vertices .entry)) (now (positions .entry)) i → Placed (now (vertices .entry)) (now (positions .entry)) (i + 8)) ⌝ }
+    ensures { λ r. ⌜
+        (r ≡ true → Placed (now (vertices .entry)) (now (positions .entry)) i → Placed (now (vertices .entry)) (now (positions .entry)) (i + 8))
+        ⌝ }
 {
     let mut all = true;
     let mut k: usize = 0;
@@ -27,7 +29,9 @@ fn block_used(vertices: &[VertexRow], positions: &[PositionRow], i: usize) -> bo
 // Whether the eight rows from i on pass, vertices or not.
 fn block_passes(vertices: &[VertexRow], positions: &[PositionRow], i: usize) -> bool
     requires { ⌜ (i + 8 ≤ length (now vertices)) × (i + 8 ≤ length (now positions)) ⌝ }
-    ensures { λ r. ⌜ (r ≡ true → Placed (now (vertices .entry)) (now (positions .entry)) i → Placed (now (vertices .entry)) (now (positions .entry)) (i + 8)) ⌝ }
+    ensures { λ r. ⌜
+        (r ≡ true → Placed (now (vertices .entry)) (now (positions .entry)) i → Placed (now (vertices .entry)) (now (positions .entry)) (i + 8))
+        ⌝ }
 {
     let mut all = true;
     let mut k: usize = 0;

@@ -20,7 +20,8 @@ ghost use mathlib.Core.Bool.{not};
 ghost use Prim.Native.Nat.{ℕ, _≤_};
 ghost use lib.ListN.{length};
 ghost use Rattle.rules.specs.Table.{every};
-ghost use Rattle.rules.specs.Mesh.{Mesh, mesh, faceArc};
+ghost use Rattle.rules.specs.Mesh.{Mesh, faceArc};
+ghost use Rattle.rules.specs.Lent.{meshBefore};
 ghost use Rattle.rules.specs.Link as Link;
 ghost use Rattle.rules.specs.Sound.{sound};
 ghost use Rattle.rules.specs.Call.{checkSound, checkFinished, faceArity, leadless};
@@ -36,7 +37,7 @@ pub fn is_sound(
     faces: &[FaceRow],
     counters: &[u32; 3],
 ) -> bool
-    ensures { λ r. ⌜ r ≡ sound (mesh (now (vertices .entry)) (now (positions .entry)) (now (arcs .entry)) (now (edges .entry)) (now (faces .entry)) (now (counters .entry))) ⌝ }
+    ensures { λ r. ⌜ r ≡ sound (meshBefore vertices positions arcs edges faces counters) ⌝ }
 {
     if !sets::within_limits(vertices, positions, arcs, edges, faces) {
         return false;
@@ -83,7 +84,7 @@ pub fn check_sound(
     faces: &[FaceRow],
     counters: &[u32; 3],
 ) -> Answer
-    ensures { λ r. ⌜ r ≡ checkSound (mesh (now (vertices .entry)) (now (positions .entry)) (now (arcs .entry)) (now (edges .entry)) (now (faces .entry)) (now (counters .entry))) ⌝ }
+    ensures { λ r. ⌜ r ≡ checkSound (meshBefore vertices positions arcs edges faces counters) ⌝ }
 {
     if is_sound(vertices, positions, arcs, edges, faces, counters) {
         return Answer::Done;
@@ -154,7 +155,7 @@ pub fn face_arity(
     counters: &[u32; 3],
     face: u32,
 ) -> Answer
-    ensures { λ r. ⌜ r ≡ faceArity (mesh (now (vertices .entry)) (now (positions .entry)) (now (arcs .entry)) (now (edges .entry)) (now (faces .entry)) (now (counters .entry))) face ⌝ }
+    ensures { λ r. ⌜ r ≡ faceArity (meshBefore vertices positions arcs edges faces counters) face ⌝ }
 {
     if !is_sound(vertices, positions, arcs, edges, faces, counters) {
         return Answer::Refused(Refusal::Tables);

@@ -39,7 +39,7 @@ fn three_rows(p: ArcRow, q: ArcRow, z: ArcRow, f: usize, first: u32) -> bool
             & (faces::ring_row(z, f, p[2], q[1]) & three_apart(p[0], q[0], z[0])))
 }
 
-// The same of four rows, r between q and z.
+// Whether the rows p, q, r and z, in this order, are those of a ring of f.
 fn four_rows(p: ArcRow, q: ArcRow, r: ArcRow, z: ArcRow, f: usize, first: u32) -> bool
     ensures { λ b. ⌜ b ≡ fourRows p q r z f first ⌝ }
 {

@@ -26,6 +26,7 @@ ghost use lib.ListN.{length};
 ghost use lib.Ieee.{Float};
 ghost use Rattle.rules.specs.Table.{Table, count, used};
 ghost use Rattle.rules.specs.Mesh.{mesh, listOf};
+ghost use Rattle.rules.specs.Lent.{unlent, meshBefore, meshAfter};
 ghost use Rattle.rules.specs.Step.{step};
 ghost use Rattle.rules.specs.Insert.{insertChecks, putFace, listsOf};
 ghost use Rattle.rules.specs.Edit.{splitWork};
@@ -46,7 +47,14 @@ fn halves_copied(
     right: Links,
 )
     requires { ⌜ (length (now past) ≡ length (now arcs)) × (length (now pastedges) ≡ length (now edges)) ⌝ }
-    ensures { λ _. ⌜ ((p : List (List Float)) → mesh (now (vertices .exit)) p (now (arcs .exit)) (now (edges .exit)) (now (faces .exit)) (now (counters .exit)) ≡ putFace (putFace (mesh (now (vertices .entry)) p (now (arcs .entry)) (now (edges .entry)) (now (faces .entry)) (now (counters .entry))) (listOf left) (listsOf (mesh (now (vertices .entry)) p (now (arcs .entry)) (now (edges .entry)) (now (faces .entry)) (now (counters .entry))) (listOf left)) 0) (listOf right) (listsOf (mesh (now (vertices .entry)) p (now (arcs .entry)) (now (edges .entry)) (now (faces .entry)) (now (counters .entry))) (listOf right)) 0) ⌝ }
+    ensures { λ _. ⌜
+        ((p : List (List Float)) →
+        meshAfter vertices (unlent p) arcs edges faces counters
+        ≡ putFace
+        (putFace (meshBefore vertices (unlent p) arcs edges faces counters) (listOf left)
+        (listsOf (meshBefore vertices (unlent p) arcs edges faces counters) (listOf left)) 0)
+        (listOf right) (listsOf (meshBefore vertices (unlent p) arcs edges faces counters) (listOf right)) 0)
+        ⌝ }
 {
     lists::known_few(left);
     lists::known_few(right);
@@ -93,7 +101,12 @@ fn both_taken(
     theirs: &mut [[u32; RING]],
 ) -> bool
     requires { ⌜ (length (now ours) ≡ 64) × (length (now theirs) ≡ 64) ⌝ }
-    ensures { λ r. ⌜ (r ≡ true → Taken (now (ours .exit)) (listsFrom (now (arcs .entry)) (now (edges .entry)) (count used (now (arcs .entry))) (listOf leads)) (length (listOf leads)) × Taken (now (theirs .exit)) (listsFrom (now (arcs .entry)) (now (edges .entry)) (count used (now (arcs .entry))) (listOf seconds)) (length (listOf seconds))) ⌝ }
+    ensures { λ r. ⌜
+        (r ≡ true → Taken (now (ours .exit)) (listsFrom (now (arcs .entry)) (now (edges .entry)) (count used (now (arcs .entry))) (listOf leads))
+        (length (listOf leads))
+        × Taken (now (theirs .exit)) (listsFrom (now (arcs .entry)) (now (edges .entry)) (count used (now (arcs .entry))) (listOf seconds))
+        (length (listOf seconds)))
+        ⌝ }
 {
     lists::known_few(leads);
     lists::known_few(seconds);
@@ -120,7 +133,12 @@ fn halves_taken(
 )
     requires { ⌜ (length (listOf left) ≤ length (now ours)) × (length (listOf right) ≤ length (now theirs)) ⌝ }
     requires { ⌜ Known (now arcs) (now edges) (now faces) (now seen) (now near) around ⌝ }
-    ensures { λ _. ⌜ ((p : List (List Float)) → mesh (now (vertices .exit)) p (now (arcs .exit)) (now (edges .exit)) (now (faces .exit)) (now (counters .exit)) ≡ putFace (putFace (mesh (now (vertices .entry)) p (now (arcs .entry)) (now (edges .entry)) (now (faces .entry)) (now (counters .entry))) (listOf left) (now (ours .entry)) 0) (listOf right) (now (theirs .entry)) 0) ⌝ }
+    ensures { λ _. ⌜
+        ((p : List (List Float)) →
+        meshAfter vertices (unlent p) arcs edges faces counters
+        ≡ putFace (putFace (meshBefore vertices (unlent p) arcs edges faces counters) (listOf left) (now (ours .entry)) 0) (listOf right)
+        (now (theirs .entry)) 0)
+        ⌝ }
 {
     lists::known_few(left);
     lists::known_few(right);
@@ -171,7 +189,14 @@ fn halves_in(
 )
     requires { ⌜ (length (now past) ≡ length (now arcs)) × (length (now pastedges) ≡ length (now edges)) ⌝ }
     requires { ⌜ Known (now arcs) (now edges) (now faces) (now seen) (now near) around ⌝ }
-    ensures { λ _. ⌜ ((p : List (List Float)) → mesh (now (vertices .exit)) p (now (arcs .exit)) (now (edges .exit)) (now (faces .exit)) (now (counters .exit)) ≡ putFace (putFace (mesh (now (vertices .entry)) p (now (arcs .entry)) (now (edges .entry)) (now (faces .entry)) (now (counters .entry))) (listOf left) (listsOf (mesh (now (vertices .entry)) p (now (arcs .entry)) (now (edges .entry)) (now (faces .entry)) (now (counters .entry))) (listOf left)) 0) (listOf right) (listsOf (mesh (now (vertices .entry)) p (now (arcs .entry)) (now (edges .entry)) (now (faces .entry)) (now (counters .entry))) (listOf right)) 0) ⌝ }
+    ensures { λ _. ⌜
+        ((p : List (List Float)) →
+        meshAfter vertices (unlent p) arcs edges faces counters
+        ≡ putFace
+        (putFace (meshBefore vertices (unlent p) arcs edges faces counters) (listOf left)
+        (listsOf (meshBefore vertices (unlent p) arcs edges faces counters) (listOf left)) 0)
+        (listOf right) (listsOf (meshBefore vertices (unlent p) arcs edges faces counters) (listOf right)) 0)
+        ⌝ }
 {
     lists::known_few(left);
     lists::known_few(right);
@@ -218,7 +243,10 @@ fn half_checks(
     by: Nearby,
 ) -> Answer
     requires { ⌜ Near (now arcs) (now seen) (now near) by ⌝ }
-    ensures { λ r. ⌜ ((vs : Table) (ps : List (List Float)) (es fs : Table) (ks : List ℕ) → r ≡ insertChecks (mesh vs ps (now (arcs .entry)) es fs ks) (listOf half) (listOf half)) ⌝ }
+    ensures { λ r. ⌜
+        ((vs : Table) (ps : List (List Float)) (es fs : Table) (ks : List ℕ) →
+        r ≡ insertChecks (mesh vs ps (now (arcs .entry)) es fs ks) (listOf half) (listOf half))
+        ⌝ }
 {
     lists::known_few(half);
     let found = pairs::near::perimeter_arcs_near(arcs, half, seen, near, by);
@@ -238,7 +266,11 @@ pub fn split_work(
     d: u32,
 ) -> Answer
     requires { ⌜ (length (now past) ≡ length (now arcs)) × (length (now pastedges) ≡ length (now edges)) ⌝ }
-    ensures { λ r. ⌜ ((p : List (List Float)) → step (mesh (now (vertices .exit)) p (now (arcs .exit)) (now (edges .exit)) (now (faces .exit)) (now (counters .exit))) r ≡ splitWork (mesh (now (vertices .entry)) p (now (arcs .entry)) (now (edges .entry)) (now (faces .entry)) (now (counters .entry))) f s d) ⌝ }
+    ensures { λ r. ⌜
+        ((p : List (List Float)) →
+        step (meshAfter vertices (unlent p) arcs edges faces counters) r
+        ≡ splitWork (meshBefore vertices (unlent p) arcs edges faces counters) f s d)
+        ⌝ }
 {
     let left = checks::split::half(arcs, faces, f, s, d);
     let right = checks::split::half(arcs, faces, f, d, s);

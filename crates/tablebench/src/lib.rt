@@ -7,7 +7,8 @@ use rules::FaceRow;
 use rules::PositionRow;
 use rules::VertexRow;
 ghost use mathlib.Core.Path.{_≡_};
-ghost use Rattle.rules.specs.Mesh.{room, arcBetween};
+ghost use Rattle.rules.specs.Mesh.{arcBetween};
+ghost use Rattle.rules.specs.Lent.{roomBefore, roomAfter};
 ghost use Rattle.rules.specs.Call.{zeroed};
 ghost use Rattle.tables.specs.Sets.{setOver};
 
@@ -33,7 +34,11 @@ pub extern "C" fn tablebench_copy_set(
     from_edges: &[EdgeRow],
     from_faces: &[FaceRow],
 )
-    ensures { λ _. ⌜ room (now (vertices .exit)) (now (positions .exit)) (now (arcs .exit)) (now (edges .exit)) (now (faces .exit)) ≡ setOver (room (now («from_vertices» .entry)) (now («from_positions» .entry)) (now («from_arcs» .entry)) (now («from_edges» .entry)) (now («from_faces» .entry))) (room (now (vertices .entry)) (now (positions .entry)) (now (arcs .entry)) (now (edges .entry)) (now (faces .entry))) ⌝ }
+    ensures { λ _. ⌜
+        roomAfter vertices positions arcs edges faces
+        ≡ setOver (roomBefore «from_vertices» «from_positions» «from_arcs» «from_edges» «from_faces»)
+        (roomBefore vertices positions arcs edges faces)
+        ⌝ }
 {
     tables::sets::copy_set(
         vertices,
@@ -58,7 +63,7 @@ pub extern "C" fn tablebench_zero_set(
     edges: &mut [EdgeRow],
     faces: &mut [FaceRow],
 )
-    ensures { λ _. ⌜ room (now (vertices .exit)) (now (positions .exit)) (now (arcs .exit)) (now (edges .exit)) (now (faces .exit)) ≡ zeroed (room (now (vertices .entry)) (now (positions .entry)) (now (arcs .entry)) (now (edges .entry)) (now (faces .entry))) ⌝ }
+    ensures { λ _. ⌜ roomAfter vertices positions arcs edges faces ≡ zeroed (roomBefore vertices positions arcs edges faces) ⌝ }
 {
     tables::sets::zero_set(vertices, positions, arcs, edges, faces);
 }

@@ -13,7 +13,7 @@ ghost use mathlib.Core.Path.{_≡_};
 ghost use Prim.Native.Nat.{ℕ, min, _<_};
 ghost use mathlib.Core.List.{List, [], _∷_};
 ghost use lib.ListN.{length, replicate, set};
-ghost use Rattle.rules.specs.Mesh.{mesh, room};
+ghost use Rattle.rules.specs.Lent.{unlent, meshBefore, roomBefore, roomAfter};
 ghost use Rattle.rules.specs.Point.{zeroFloat};
 ghost use Rattle.rules.specs.Sound.{withinLimits};
 ghost use Rattle.rules.specs.Call.{roomEnough, zeroed};
@@ -149,7 +149,11 @@ pub fn copy_set(
     from_edges: &[EdgeRow],
     from_faces: &[FaceRow],
 )
-    ensures { λ _. ⌜ room (now (vertices .exit)) (now (positions .exit)) (now (arcs .exit)) (now (edges .exit)) (now (faces .exit)) ≡ setOver (room (now («from_vertices» .entry)) (now («from_positions» .entry)) (now («from_arcs» .entry)) (now («from_edges» .entry)) (now («from_faces» .entry))) (room (now (vertices .entry)) (now (positions .entry)) (now (arcs .entry)) (now (edges .entry)) (now (faces .entry))) ⌝ }
+    ensures { λ _. ⌜
+        roomAfter vertices positions arcs edges faces
+        ≡ setOver (roomBefore «from_vertices» «from_positions» «from_arcs» «from_edges» «from_faces»)
+        (roomBefore vertices positions arcs edges faces)
+        ⌝ }
 {
     copy2(vertices, from_vertices);
     copy_positions(positions, from_positions);
@@ -166,7 +170,7 @@ pub fn zero_set(
     edges: &mut [EdgeRow],
     faces: &mut [FaceRow],
 )
-    ensures { λ _. ⌜ room (now (vertices .exit)) (now (positions .exit)) (now (arcs .exit)) (now (edges .exit)) (now (faces .exit)) ≡ zeroed (room (now (vertices .entry)) (now (positions .entry)) (now (arcs .entry)) (now (edges .entry)) (now (faces .entry))) ⌝ }
+    ensures { λ _. ⌜ roomAfter vertices positions arcs edges faces ≡ zeroed (roomBefore vertices positions arcs edges faces) ⌝ }
 {
     zero2(vertices);
     zero_positions(positions);
@@ -183,7 +187,7 @@ pub fn within_limits(
     edges: &[EdgeRow],
     faces: &[FaceRow],
 ) -> bool
-    ensures { λ r. ⌜ ((k : List ℕ) → r ≡ withinLimits (mesh (now (vertices .entry)) (now (positions .entry)) (now (arcs .entry)) (now (edges .entry)) (now (faces .entry)) k)) ⌝ }
+    ensures { λ r. ⌜ ((k : List ℕ) → r ≡ withinLimits (meshBefore vertices positions arcs edges faces (unlent k))) ⌝ }
 {
     if vertices.len() > VERTEX_LIMIT {
         return false;
@@ -213,7 +217,11 @@ pub fn room_enough(
     room_edges: &[EdgeRow],
     room_faces: &[FaceRow],
 ) -> bool
-    ensures { λ r. ⌜ ((k : List ℕ) → r ≡ roomEnough (mesh (now (vertices .entry)) (now (positions .entry)) (now (arcs .entry)) (now (edges .entry)) (now (faces .entry)) k) (room (now («room_vertices» .entry)) (now («room_positions» .entry)) (now («room_arcs» .entry)) (now («room_edges» .entry)) (now («room_faces» .entry)))) ⌝ }
+    ensures { λ r. ⌜
+        ((k : List ℕ) →
+        r ≡ roomEnough (meshBefore vertices positions arcs edges faces (unlent k))
+        (roomBefore «room_vertices» «room_positions» «room_arcs» «room_edges» «room_faces»))
+        ⌝ }
 {
     if vertices.len() > room_vertices.len() {
         return false;

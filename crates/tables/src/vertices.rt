@@ -51,7 +51,10 @@ pub fn vertex_at(vertices: &[VertexRow], positions: &[PositionRow], v: u32) -> V
 
 // The vertex written into the row that a link names; the other tables stay.
 pub fn put_vertex(vertices: &mut [VertexRow], positions: &mut [PositionRow], v: u32, x: Vertex)
-    ensures { λ _. ⌜ ((a e f : Table) (k : List ℕ) → mesh (now (vertices .exit)) (now (positions .exit)) a e f k ≡ putVertex (mesh (now (vertices .entry)) (now (positions .entry)) a e f k) v x) ⌝ }
+    ensures { λ _. ⌜
+        ((a e f : Table) (k : List ℕ) →
+        mesh (now (vertices .exit)) (now (positions .exit)) a e f k ≡ putVertex (mesh (now (vertices .entry)) (now (positions .entry)) a e f k) v x)
+        ⌝ }
 {
     let first = one_up(x.key);
     rows::put_row2(vertices, v, [first, x.leading]);

@@ -15,7 +15,7 @@ pub fn number(asked: &[u8], found: u32) {
     io::write_all(1, b"\n");
 }
 
-// The same of the link or key that it was asked of.
+// A number that was found for a link or a key, which is printed before it.
 pub fn number_of(asked: &[u8], of: u32, found: u32) {
     io::write_all(1, asked);
     io::print_decimal(1, of as u64);

@@ -50,7 +50,7 @@ pub fn faceless_out(
     found
 }
 
-// The same in the incoming list: the opposites of that list's arcs, in the same order.
+// The first arc without a face in the incoming list, or none: the opposites of the outgoing list's arcs, in its order.
 pub fn faceless_in(
     arcs: &[ArcRow],
     edges: &[EdgeRow],
@@ -59,7 +59,10 @@ pub fn faceless_in(
     first: u32,
     bound: usize,
 ) -> u32
-    ensures { λ r. ⌜ r ≡ facelessIn (now (arcs .entry)) (map (oppositeOf (now (arcs .entry)) (now (edges .entry))) (walk (turnIn (now (past .entry)) (now (pastedges .entry))) first bound first)) ⌝ }
+    ensures { λ r. ⌜
+        r ≡ facelessIn (now (arcs .entry))
+        (map (oppositeOf (now (arcs .entry)) (now (edges .entry))) (walk (turnIn (now (past .entry)) (now (pastedges .entry))) first bound first))
+        ⌝ }
 {
     let mut found = 0;
     let mut x = first;

@@ -174,7 +174,7 @@ impl Case {
         Ok(Answer { values, ..answer })
     }
 
-    /// The same call through the type that owns its tables: the same number, the same tables.
+    /// A call through the type that owns its tables answers the same number and leaves the same tables.
     fn call_twin(&self, line: &Line, mesh: &mut Mesh, lending: &Lending, answer: &Answer) -> Result<(), String> {
         let owned = line.shifted(self.shift).call_mesh(mesh);
         let same = same_bits(mesh.tables(), &lending.tables) && mesh.counters() == lending.counters;

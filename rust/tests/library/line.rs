@@ -108,7 +108,7 @@ impl Line {
         }
     }
 
-    /// The same line with every key raised, around the end of the numbers, by the shift of its kind.
+    /// This line with every key raised, around the end of the numbers, by the shift of its kind.
     pub fn shifted(&self, shift: Counters) -> Line {
         let v = |key: u32| key.wrapping_add(shift[0]);
         let f = |key: u32| key.wrapping_add(shift[2]);
@@ -157,7 +157,7 @@ impl Line {
         }
     }
 
-    /// The same through the type that owns its tables.
+    /// The line's call through the type that owns its tables.
     pub fn call_mesh(&self, mesh: &mut Mesh) -> Answer {
         let vertex = |key: &u32| VertexKey(*key);
         let arc = |a: &u32, b: &u32| Arc(VertexKey(*a), VertexKey(*b));

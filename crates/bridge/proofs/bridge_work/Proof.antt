@@ -5,23 +5,8 @@ use borrow.Author.Needs.{needs}
 use Rattle.bridge.proofs.bridge_work.Statement.{statement}
 use Rattle.bridge.proofs.bridge_work.Tie as tie
 
-ring-of-requires : tie.Need-ring-of-requires
-ring-of-requires c κs = search needs
-
-ring-of-requires-2 : tie.Need-ring-of-requires-2
-ring-of-requires-2 c κs = search needs
-
-remove-face-requires : tie.Need-remove-face-requires
-remove-face-requires c κs = search needs
-
-remove-face-requires-2 : tie.Need-remove-face-requires-2
-remove-face-requires-2 c κs = search needs
-
 pairs-near-requires : tie.Need-pairs-near-requires
 pairs-near-requires c κs = (c .before .before .before .before .before .before .before .before .before .before .before .before .before .before .before .before .before .before .before .before .before .before .before .pre .0 ∙ sym (c .before .before .before .before .before .before .before .before .before .before .before .before .before .before .remove-face .kept .0) ∙ sym (c .before .before .before .before .before .before .before .before .before .remove-face2 .kept .0), c .before .before .before .before .before .before .before .before .before .before .before .before .before .before .before .before .before .before .before .before .before .before .before .pre .1)
-
-answering-requires : tie.Need-answering-requires
-answering-requires c κs = search needs
 
 same-length : tie.Need-same-length
 same-length c = c .before .before .before .before .before .before .before .pairs-near .kept .0
@@ -56,12 +41,12 @@ pub bridge-work-spec : {M : Type 1} → statement M
 bridge-work-spec =
     tie.close
     (tie.spec
-    ring-of-requires
-    ring-of-requires-2
-    remove-face-requires
-    remove-face-requires-2
+    (λ c κs. search needs)
+    (λ c κs. search needs)
+    (λ c κs. search needs)
+    (λ c κs. search needs)
     pairs-near-requires
-    answering-requires
+    (λ c κs. search needs)
     same-length
     same-length-2
     same-length-3

@@ -26,19 +26,10 @@ Inv-loop vertices₀ arcs₀ edges₀ faces₀ counters₀ past₀ pastedges₀ 
 abbrev μ-loop : tie.MeasureT-loop
 μ-loop vertices₀ arcs₀ edges₀ faces₀ counters₀ past₀ pastedges₀ seen near around forth back n i₀ vertices arcs edges faces counters past pastedges i = n - i
 
-size-requires : tie.Need-size-requires Inv-loop μ-loop
-size-requires c κs = search needs
-
 loop-holds : tie.Need-loop-holds Inv-loop μ-loop
 loop-holds c =
     let a = c .before .args in
     (search needs, (record { ofv = refl; ofa = refl; ofe = refl; off = refl; ofp = refl; ofq = refl }, λ p. each-none (λ i n. arcBridge n (getD (listOf (a .forth)) i 0) (getD (reverse (listOf (a .back))) i 0)) (mesh (a .vertices .now) p (a .arcs .now) (a .edges .now) (a .faces .now) (a .counters .now))))
-
-item-requires : tie.Need-item-requires Inv-loop μ-loop
-item-requires c κs = search needs
-
-item-from-end-requires : tie.Need-item-from-end-requires Inv-loop μ-loop
-item-from-end-requires c κs = search needs
 
 arc-bridge-requires : tie.Need-arc-bridge-requires Inv-loop μ-loop
 arc-bridge-requires c κs =
@@ -51,9 +42,6 @@ arc-bridge-requires c κs =
       (k .ofp ∙ s .pre .0 .0 ∙ sym (k .ofa), k .ofq ∙ s .pre .0 .1 ∙ sym (k .ofe)),
       known-each (λ i n. arcBridge n (getD (listOf (a .forth)) i 0) (getD (reverse (listOf (a .back))) i 0)) (λ i n. filled-bridge n (getD (listOf (a .forth)) i 0) (getD (reverse (listOf (a .back))) i 0)) m₀ (l .i) m (a .seen .now) (a .near .now) (a .around) (l .inv .1 .1 []) (s .pre .1),
     )
-
-accepted-requires : tie.Need-accepted-requires Inv-loop μ-loop
-accepted-requires c κs = search needs
 
 same-length : tie.Need-same-length Inv-loop μ-loop
 same-length c = c .before .before .before .before .before .before .before .before .arc-bridge .kept .0 ∙ c .before .before .before .before .before .before .before .before .before .before .before .before .before .before .before .before .before .before .before .loop .inv .1 .0 .ofv
@@ -84,12 +72,6 @@ returns c =
     let m′ : Mesh = mesh (g .last .0) p (g .last .1 .0) (g .last .1 .1 .0) (g .last .1 .1 .1 .0) (g .last .1 .1 .1 .1 .0) in
     each-stops (λ i n. arcBridge n (getD (listOf (a .forth)) i 0) (getD (reverse (listOf (a .back))) i 0)) (l .i) (length (listOf (a .forth))) m₀ m m′ (g .result) (omega (arith, c .before .before .before .before .before .before .before .before .before .before .before .before .before .before .before .before .before .before .before .before .size .ensures, c .before .before .before .before .before .before .before .before .before .before .before .before .before .before .before .before .before .before .loop-test .taken)) (l .inv .1 .1 p)
     (g .ensures p ∙ (λ j. arcBridge m (c .before .before .before .before .before .before .before .before .before .before .before .before .before .before .before .before .before .item .ensures j) (c .before .before .before .before .before .before .before .before .before .before .before .before .before .before .before .before .item-from-end .ensures j))) (sym (c .before .accepted .ensures) ∙ not-true _ (c .if1 .taken))
-
-add-i : tie.Need-add-i Inv-loop μ-loop
-add-i c = search needs
-
-loop-less : tie.Need-loop-less Inv-loop μ-loop
-loop-less c = search needs
 
 loop-again : tie.Need-loop-again Inv-loop μ-loop
 loop-again c =
@@ -140,12 +122,12 @@ pairs-in-spec =
     (tie.spec
     Inv-loop
     μ-loop
-    size-requires
+    (λ c κs. search needs)
     loop-holds
-    item-requires
-    item-from-end-requires
+    (λ c κs. search needs)
+    (λ c κs. search needs)
     arc-bridge-requires
-    accepted-requires
+    (λ c κs. search needs)
     same-length
     same-length-2
     same-length-3
@@ -153,8 +135,8 @@ pairs-in-spec =
     same-length-5
     same-length-6
     returns
-    add-i
-    loop-less
+    (λ c. search needs)
+    (λ c. search needs)
     loop-again
     same-length-7
     same-length-8

@@ -4,18 +4,6 @@ use borrow.Author.Needs.{needs}
 use Rattle.bridge.proofs.pairs_near.Statement.{statement}
 use Rattle.bridge.proofs.pairs_near.Tie as tie
 
-known-few-requires : tie.Need-known-few-requires
-known-few-requires c κs = search needs
-
-size-requires : tie.Need-size-requires
-size-requires c κs = search needs
-
-sources-requires : tie.Need-sources-requires
-sources-requires c κs = search needs
-
-sources-requires-2 : tie.Need-sources-requires-2
-sources-requires-2 c κs = search needs
-
 near-edit-requires : tie.Need-near-edit-requires
 near-edit-requires c κs = omega (arith, c .before .before .before .before .before .before .before .before .before .size .ensures, c .before .before .before .before .before .before .before .before .before .before .known-few .ensures)
 
@@ -47,10 +35,10 @@ pub pairs-near-spec : {M : Type 1} → statement M
 pairs-near-spec =
     tie.close
     (tie.spec
-    known-few-requires
-    size-requires
-    sources-requires
-    sources-requires-2
+    (λ c κs. search needs)
+    (λ c κs. search needs)
+    (λ c κs. search needs)
+    (λ c κs. search needs)
     near-edit-requires
     pairs-in-requires
     same-length

@@ -16,30 +16,6 @@ use borrow.Author.Needs.{needs}
 use Rattle.choice.proofs.arc_bridge.Statement.{statement}
 use Rattle.choice.proofs.arc_bridge.Tie as tie
 
-four-by-keys-requires : tie.Need-four-by-keys-requires
-four-by-keys-requires c κs = search needs
-
-arc-bridge-work-requires : tie.Need-arc-bridge-work-requires
-arc-bridge-work-requires c κs = search needs
-
-same-length : tie.Need-same-length
-same-length c = search needs
-
-same-length-2 : tie.Need-same-length-2
-same-length-2 c = search needs
-
-same-length-3 : tie.Need-same-length-3
-same-length-3 c = search needs
-
-same-length-4 : tie.Need-same-length-4
-same-length-4 c = search needs
-
-same-length-5 : tie.Need-same-length-5
-same-length-5 c = search needs
-
-same-length-6 : tie.Need-same-length-6
-same-length-6 c = search needs
-
 returns : tie.Need-returns
 unfolding work
 returns c =
@@ -54,12 +30,12 @@ pub arc-bridge-spec : {M : Type 1} → statement M
 arc-bridge-spec =
     tie.close
     (tie.spec
-    four-by-keys-requires
-    arc-bridge-work-requires
-    same-length
-    same-length-2
-    same-length-3
-    same-length-4
-    same-length-5
-    same-length-6
+    (λ c κs. search needs)
+    (λ c κs. search needs)
+    (λ c. search needs)
+    (λ c. search needs)
+    (λ c. search needs)
+    (λ c. search needs)
+    (λ c. search needs)
+    (λ c. search needs)
     returns)

@@ -16,36 +16,6 @@ use borrow.Author.Needs.{needs}
 use Rattle.choice.proofs.face_insert.Statement.{statement}
 use Rattle.choice.proofs.face_insert.Tie as tie
 
-from-keys-requires : tie.Need-from-keys-requires
-from-keys-requires c κs = search needs
-
-vertices-by-keys-requires : tie.Need-vertices-by-keys-requires
-vertices-by-keys-requires c κs = search needs
-
-element-copy-out-key : tie.Need-element-copy-out-key
-element-copy-out-key c = search needs
-
-insert-work-requires : tie.Need-insert-work-requires
-insert-work-requires c κs = search needs
-
-same-length : tie.Need-same-length
-same-length c = search needs
-
-same-length-2 : tie.Need-same-length-2
-same-length-2 c = search needs
-
-same-length-3 : tie.Need-same-length-3
-same-length-3 c = search needs
-
-same-length-4 : tie.Need-same-length-4
-same-length-4 c = search needs
-
-same-length-5 : tie.Need-same-length-5
-same-length-5 c = search needs
-
-same-length-6 : tie.Need-same-length-6
-same-length-6 c = search needs
-
 returns : tie.Need-returns
 unfolding work insertWork
 returns c =
@@ -60,14 +30,14 @@ pub face-insert-spec : {M : Type 1} → statement M
 face-insert-spec =
     tie.close
     (tie.spec
-    from-keys-requires
-    vertices-by-keys-requires
-    element-copy-out-key
-    insert-work-requires
-    same-length
-    same-length-2
-    same-length-3
-    same-length-4
-    same-length-5
-    same-length-6
+    (λ c κs. search needs)
+    (λ c κs. search needs)
+    (λ c. search needs)
+    (λ c κs. search needs)
+    (λ c. search needs)
+    (λ c. search needs)
+    (λ c. search needs)
+    (λ c. search needs)
+    (λ c. search needs)
+    (λ c. search needs)
     returns)

@@ -15,21 +15,6 @@ use borrow.Author.Needs.{needs}
 use Rattle.choice.proofs.face_remove.Statement.{statement}
 use Rattle.choice.proofs.face_remove.Tie as tie
 
-find-key3-requires : tie.Need-find-key3-requires
-find-key3-requires c κs = search needs
-
-cell3-requires : tie.Need-cell3-requires
-cell3-requires c κs = search needs
-
-remove-face-requires : tie.Need-remove-face-requires
-remove-face-requires c κs = search needs
-
-same-length : tie.Need-same-length
-same-length c = search needs
-
-same-length-2 : tie.Need-same-length-2
-same-length-2 c = search needs
-
 returns : tie.Need-returns
 unfolding work removeWork
 returns c =
@@ -46,9 +31,9 @@ pub face-remove-spec : {M : Type 1} → statement M
 face-remove-spec =
     tie.close
     (tie.spec
-    find-key3-requires
-    cell3-requires
-    remove-face-requires
-    same-length
-    same-length-2
+    (λ c κs. search needs)
+    (λ c κs. search needs)
+    (λ c κs. search needs)
+    (λ c. search needs)
+    (λ c. search needs)
     returns)

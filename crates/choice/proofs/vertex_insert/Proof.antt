@@ -17,17 +17,8 @@ use borrow.Author.Needs.{needs}
 use Rattle.choice.proofs.vertex_insert.Statement.{statement}
 use Rattle.choice.proofs.vertex_insert.Tie as tie
 
-element-copy-out-key : tie.Need-element-copy-out-key
-element-copy-out-key c = search needs
-
 new-vertex-requires : tie.Need-new-vertex-requires
 new-vertex-requires c κs = λ k q. let z : ⊥ = omega arith in absurd z
-
-same-length : tie.Need-same-length
-same-length c = search needs
-
-same-length-2 : tie.Need-same-length-2
-same-length-2 c = search needs
 
 returns : tie.Need-returns
 unfolding work
@@ -38,4 +29,4 @@ returns c =
 
 pub vertex-insert-spec : {M : Type 1} → statement M
 vertex-insert-spec =
-    tie.close (tie.spec element-copy-out-key new-vertex-requires same-length same-length-2 returns)
+    tie.close (tie.spec (λ c. search needs) new-vertex-requires (λ c. search needs) (λ c. search needs) returns)

@@ -16,61 +16,10 @@ use borrow.Author.Needs.{needs}
 use Rattle.choice.proofs.work.Statement.{statement}
 use Rattle.choice.proofs.work.Tie as tie
 
-enum-known-edit : tie.Need-enum-known-edit
-enum-known-edit c = search needs
-
-vertex-insert-requires : tie.Need-vertex-insert-requires
-vertex-insert-requires c κs = search needs
-
-enum-known-edit-2 : tie.Need-enum-known-edit-2
-enum-known-edit-2 c = search needs
-
 face-insert-requires : tie.Need-face-insert-requires
 face-insert-requires c κs =
     let z = c .before .before .before .before .before .before .before .before .before .before .before .pre in
     (z .0, z .1 (c .before .before .before .before .before .before .before .before .edit2 .given .0 .0) (c .before .before .before .before .before .before .before .before .edit2 .given .1))
-
-enum-known-edit-3 : tie.Need-enum-known-edit-3
-enum-known-edit-3 c = search needs
-
-face-remove-requires : tie.Need-face-remove-requires
-face-remove-requires c κs = search needs
-
-enum-known-edit-4 : tie.Need-enum-known-edit-4
-enum-known-edit-4 c = search needs
-
-face-split-requires : tie.Need-face-split-requires
-face-split-requires c κs = search needs
-
-enum-known-edit-5 : tie.Need-enum-known-edit-5
-enum-known-edit-5 c = search needs
-
-face-poke-requires : tie.Need-face-poke-requires
-face-poke-requires c κs = search needs
-
-enum-known-edit-6 : tie.Need-enum-known-edit-6
-enum-known-edit-6 c = search needs
-
-face-bridge-requires : tie.Need-face-bridge-requires
-face-bridge-requires c κs = search needs
-
-enum-known-edit-7 : tie.Need-enum-known-edit-7
-enum-known-edit-7 c = search needs
-
-face-extrude-requires : tie.Need-face-extrude-requires
-face-extrude-requires c κs = search needs
-
-enum-known-edit-8 : tie.Need-enum-known-edit-8
-enum-known-edit-8 c = search needs
-
-arc-bridge-requires : tie.Need-arc-bridge-requires
-arc-bridge-requires c κs = search needs
-
-enum-known-edit-9 : tie.Need-enum-known-edit-9
-enum-known-edit-9 c = search needs
-
-arc-extrude-requires : tie.Need-arc-extrude-requires
-arc-extrude-requires c κs = search needs
 
 same-length : tie.Need-same-length
 same-length c = search needs
@@ -268,24 +217,24 @@ pub work-spec : {M : Type 1} → statement M
 work-spec =
     tie.close
     (tie.spec
-    enum-known-edit
-    vertex-insert-requires
-    enum-known-edit-2
+    (λ c. search needs)
+    (λ c κs. search needs)
+    (λ c. search needs)
     face-insert-requires
-    enum-known-edit-3
-    face-remove-requires
-    enum-known-edit-4
-    face-split-requires
-    enum-known-edit-5
-    face-poke-requires
-    enum-known-edit-6
-    face-bridge-requires
-    enum-known-edit-7
-    face-extrude-requires
-    enum-known-edit-8
-    arc-bridge-requires
-    enum-known-edit-9
-    arc-extrude-requires
+    (λ c. search needs)
+    (λ c κs. search needs)
+    (λ c. search needs)
+    (λ c κs. search needs)
+    (λ c. search needs)
+    (λ c κs. search needs)
+    (λ c. search needs)
+    (λ c κs. search needs)
+    (λ c. search needs)
+    (λ c κs. search needs)
+    (λ c. search needs)
+    (λ c κs. search needs)
+    (λ c. search needs)
+    (λ c κs. search needs)
     same-length
     same-length-2
     returns

@@ -7,23 +7,8 @@ use borrow.Author.Needs.{needs}
 use Rattle.extrude.proofs.extrude_work.Statement.{statement}
 use Rattle.extrude.proofs.extrude_work.Tie as tie
 
-vertices-of-requires : tie.Need-vertices-of-requires
-vertices-of-requires c κs = search needs
-
-element-copy-out-key : tie.Need-element-copy-out-key
-element-copy-out-key c = search needs
-
-remove-face-requires : tie.Need-remove-face-requires
-remove-face-requires c κs = search needs
-
-copies-in-requires : tie.Need-copies-in-requires
-copies-in-requires c κs = search needs
-
 top-and-walls-requires : tie.Need-top-and-walls-requires
 top-and-walls-requires c κs = (c .before .before .before .before .before .before .before .before .before .before .before .before .before .before .before .before .before .before .before .before .before .before .pre .0 ∙ sym (c .before .before .before .before .before .before .before .before .before .before .before .before .before .before .before .remove-face .kept .0), c .before .before .before .before .before .before .before .before .before .before .before .before .before .before .before .before .before .before .before .before .before .before .pre .1)
-
-answering-requires : tie.Need-answering-requires
-answering-requires c κs = search needs
 
 same-length : tie.Need-same-length
 same-length c = c .before .before .before .before .before .before .before .top-and-walls .kept .0 ∙ c .before .before .before .before .before .before .before .before .before .before .before .before .before .before .before .before .before .copies-in .kept .0
@@ -60,12 +45,12 @@ pub extrude-work-spec : {M : Type 1} → statement M
 extrude-work-spec =
     tie.close
     (tie.spec
-    vertices-of-requires
-    element-copy-out-key
-    remove-face-requires
-    copies-in-requires
+    (λ c κs. search needs)
+    (λ c. search needs)
+    (λ c κs. search needs)
+    (λ c κs. search needs)
     top-and-walls-requires
-    answering-requires
+    (λ c κs. search needs)
     same-length
     same-length-2
     same-length-3

@@ -12,12 +12,6 @@ use borrow.Author.Needs.{needs}
 use Rattle.extrude.proofs.top_and_walls.Statement.{statement}
 use Rattle.extrude.proofs.top_and_walls.Tie as tie
 
-known-few-requires : tie.Need-known-few-requires
-known-few-requires c κs = search needs
-
-size-requires : tie.Need-size-requires
-size-requires c κs = search needs
-
 mul-near-edit : tie.Need-mul-near-edit
 mul-near-edit c = omega (arith, c .before .before .before .before .before .size .ensures, c .before .before .before .before .before .before .known-few .ensures)
 
@@ -26,9 +20,6 @@ near-edit-requires c κs = omega (arith, c .before .before .before .before .befo
 
 insert-face-requires : tie.Need-insert-face-requires
 insert-face-requires c κs = (c .before .before .before .before .before .before .before .before .before .before .before .before .before .before .before .before .before .pre, c .before .before .before .before .before .before .before .before .before .near-edit .ensures)
-
-accepted-requires : tie.Need-accepted-requires
-accepted-requires c κs = search needs
 
 same-length : tie.Need-same-length
 same-length c = c .before .before .before .before .before .before .before .before .insert-face .kept .0
@@ -97,12 +88,12 @@ pub top-and-walls-spec : {M : Type 1} → statement M
 top-and-walls-spec =
     tie.close
     (tie.spec
-    known-few-requires
-    size-requires
+    (λ c κs. search needs)
+    (λ c κs. search needs)
     mul-near-edit
     near-edit-requires
     insert-face-requires
-    accepted-requires
+    (λ c κs. search needs)
     same-length
     same-length-2
     same-length-3

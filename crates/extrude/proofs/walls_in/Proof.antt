@@ -28,9 +28,6 @@ Inv-loop vertices₀ arcs₀ edges₀ faces₀ counters₀ past₀ pastedges₀ 
 abbrev μ-loop : tie.MeasureT-loop
 μ-loop vertices₀ arcs₀ edges₀ faces₀ counters₀ past₀ pastedges₀ seen near around vs ds n i₀ vertices arcs edges faces counters past pastedges i = n - i
 
-size-requires : tie.Need-size-requires Inv-loop μ-loop
-size-requires c κs = search needs
-
 loop-holds : tie.Need-loop-holds Inv-loop μ-loop
 loop-holds c =
     let a = c .before .args in
@@ -50,9 +47,6 @@ insert-face-requires c κs =
       (k .ofp ∙ s .pre .0 .0 ∙ sym (k .ofa), k .ofq ∙ s .pre .0 .1 ∙ sym (k .ofe)),
       known-each (λ i n. insertFace n (wall (listOf (a .vs)) (listOf (a .ds)) i) 0) (λ i n. filled-insert n (wall (listOf (a .vs)) (listOf (a .ds)) i) 0) m₀ (l .i) m (a .seen .now) (a .near .now) (a .around) (l .inv .1 .1 []) (s .pre .1),
     )
-
-accepted-requires : tie.Need-accepted-requires Inv-loop μ-loop
-accepted-requires c κs = search needs
 
 same-length : tie.Need-same-length Inv-loop μ-loop
 same-length c = c .before .before .before .before .before .before .before .before .insert-face .kept .0 ∙ c .before .before .before .before .before .before .before .before .before .before .before .before .before .before .before .before .before .before .loop .inv .1 .0 .ofv
@@ -83,12 +77,6 @@ returns c =
     let m′ : Mesh = mesh (g .last .0) p (g .last .1 .0) (g .last .1 .1 .0) (g .last .1 .1 .1 .0) (g .last .1 .1 .1 .1 .0) in
     each-stops (λ i n. insertFace n (wall (listOf (a .vs)) (listOf (a .ds)) i) 0) (l .i) (length (listOf (a .vs))) m₀ m m′ (g .result) (omega (arith, c .before .before .before .before .before .before .before .before .before .before .before .before .before .before .before .before .before .before .before .size .ensures, c .before .before .before .before .before .before .before .before .before .before .before .before .before .before .before .before .before .loop-test .taken)) (l .inv .1 .1 p)
     (insert-held m (step m′ (g .result)) (c .before .before .before .before .before .before .before .before .before .wall-at .result) (wall (listOf (a .vs)) (listOf (a .ds)) (l .i)) 0 (wall-few (listOf (a .vs)) (listOf (a .ds)) (l .i)) (c .before .before .before .before .before .before .before .before .before .wall-at .ensures) (g .ensures p)) (sym (c .before .accepted .ensures) ∙ not-true _ (c .if1 .taken))
-
-add-i : tie.Need-add-i Inv-loop μ-loop
-add-i c = search needs
-
-loop-less : tie.Need-loop-less Inv-loop μ-loop
-loop-less c = search needs
 
 loop-again : tie.Need-loop-again Inv-loop μ-loop
 loop-again c =
@@ -139,11 +127,11 @@ walls-in-spec =
     (tie.spec
     Inv-loop
     μ-loop
-    size-requires
+    (λ c κs. search needs)
     loop-holds
     wall-at-requires
     insert-face-requires
-    accepted-requires
+    (λ c κs. search needs)
     same-length
     same-length-2
     same-length-3
@@ -151,8 +139,8 @@ walls-in-spec =
     same-length-5
     same-length-6
     returns
-    add-i
-    loop-less
+    (λ c. search needs)
+    (λ c. search needs)
     loop-again
     same-length-7
     same-length-8

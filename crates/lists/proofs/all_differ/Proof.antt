@@ -18,26 +18,8 @@ Inv-loop n at i₀ i = distinct (take n at) ≡ distinct (drop i (take n at))
 abbrev μ-loop : tie.MeasureT-loop
 μ-loop n at i₀ i = n - i
 
-size-requires : tie.Need-size-requires Inv-loop μ-loop
-size-requires c κs = search needs
-
-known-few-requires : tie.Need-known-few-requires Inv-loop μ-loop
-known-few-requires c κs = search needs
-
 loop-holds : tie.Need-loop-holds Inv-loop μ-loop
 loop-holds c = refl
-
-mul-x : tie.Need-mul-x Inv-loop μ-loop
-mul-x c = search needs
-
-array-read-x : tie.Need-array-read-x Inv-loop μ-loop
-array-read-x c = search needs
-
-add-stands-from : tie.Need-add-stands-from Inv-loop μ-loop
-add-stands-from c = search needs
-
-stands-from-requires : tie.Need-stands-from-requires Inv-loop μ-loop
-stands-from-requires c κs = search needs
 
 returns : tie.Need-returns Inv-loop μ-loop
 returns c =
@@ -49,12 +31,6 @@ returns c =
     let here : getD xs (l .loop .i) 0 ≡ getD (a .list .at) (l .loop .i) 0 = getD-take (n .result) (a .list .at) (l .loop .i) 0 (search needs) in
     let found : has (drop (l .loop .i + 1) xs) (getD xs (l .loop .i) 0) ≡ true = rw here (sym (c .before .stands-from .ensures) ∙ c .if1 .taken) in
     sym (ap distinct (sym all) ∙ l .loop .inv ∙ twice-here xs (l .loop .i) (omega (arith, ap length all, n .ensures)) found)
-
-add-i : tie.Need-add-i Inv-loop μ-loop
-add-i c = search needs
-
-loop-less : tie.Need-loop-less Inv-loop μ-loop
-loop-less c = search needs
 
 loop-again : tie.Need-loop-again Inv-loop μ-loop
 loop-again c =
@@ -82,15 +58,15 @@ all-differ-spec =
     (tie.spec
     Inv-loop
     μ-loop
-    size-requires
-    known-few-requires
+    (λ c κs. search needs)
+    (λ c κs. search needs)
     loop-holds
-    mul-x
-    array-read-x
-    add-stands-from
-    stands-from-requires
+    (λ c. search needs)
+    (λ c. search needs)
+    (λ c. search needs)
+    (λ c κs. search needs)
     returns
-    add-i
-    loop-less
+    (λ c. search needs)
+    (λ c. search needs)
     loop-again
     returns-2)

@@ -4,12 +4,9 @@ use Rattle.lists.proofs.has_from.Statement.{statement}
 use Rattle.lists.proofs.has_from.Tie as tie
 use Rattle.rules.specs.Mesh.{listOf}
 
-stands-from-requires : tie.Need-stands-from-requires
-stands-from-requires c κs = search needs
-
 returns : tie.Need-returns
 unfolding listOf
 returns c = c .stands-from .ensures
 
 pub has-from-spec : {M : Type 1} → statement M
-has-from-spec = tie.close (tie.spec stands-from-requires returns)
+has-from-spec = tie.close (tie.spec (λ c κs. search needs) returns)

@@ -9,15 +9,9 @@ use borrow.Author.Tests.{lt-ltb, le-ltb}
 use Rattle.rules.specs.Mesh.{listOf}
 use Rattle.rules.specs.Insert.{malformed}
 
-size-requires : tie.Need-size-requires
-size-requires c κs = search needs
-
 returns : tie.Need-returns
 unfolding malformed
 returns c = rw (lt-ltb _ _ (rw (c .before .size .ensures) at (c .if1 .taken)))
-
-all-differ-requires : tie.Need-all-differ-requires
-all-differ-requires c κs = search needs
 
 returns-2 : tie.Need-returns-2
 unfolding malformed
@@ -27,4 +21,4 @@ returns-2 c =
     rw (le-ltb (length (listOf (a .names))) 3 n, c .all-differ .ensures)
 
 pub is-malformed-spec : {M : Type 1} → statement M
-is-malformed-spec = tie.close (tie.spec size-requires returns all-differ-requires returns-2)
+is-malformed-spec = tie.close (tie.spec (λ c κs. search needs) returns (λ c κs. search needs) returns-2)

@@ -11,13 +11,10 @@ returns c =
     let a = c .before .before .args in
     sym (item-past (a .list) (a .i) (search needs))
 
-link-at-requires : tie.Need-link-at-requires
-link-at-requires c κs = search needs
-
 returns-2 : tie.Need-returns-2
 returns-2 c =
     let a = c .before .before .before .args in
     c .link-at .ensures ∙ sym (item-in (a .list) (a .i) (search needs))
 
 pub item-spec : {M : Type 1} → statement M
-item-spec = tie.close (tie.spec returns link-at-requires returns-2)
+item-spec = tie.close (tie.spec returns (λ c κs. search needs) returns-2)

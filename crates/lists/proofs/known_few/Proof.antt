@@ -5,11 +5,8 @@ use Rattle.lists.proofs.known_few.Tie as tie
 use Prim.Native.Nat.{_-_}
 use Rattle.lists.proofs.Laws.{list-few}
 
-known-places-requires : tie.Need-known-places-requires
-known-places-requires c κs = search needs
-
 returns : tie.Need-returns
 returns c = list-few (c .before .before .args .list) (c .known-places .ensures)
 
 pub known-few-spec : {M : Type 1} → statement M
-known-few-spec = tie.close (tie.spec known-places-requires returns)
+known-few-spec = tie.close (tie.spec (λ c κs. search needs) returns)

@@ -5,14 +5,8 @@ use Rattle.lists.proofs.size.Tie as tie
 use Prim.Native.Nat.{_-_}
 use Rattle.lists.proofs.Laws.{list-size}
 
-known-places-requires : tie.Need-known-places-requires
-known-places-requires c κs = search needs
-
-in-use-requires : tie.Need-in-use-requires
-in-use-requires c κs = search needs
-
 returns : tie.Need-returns
 returns c = list-size (c .before .before .before .args .list) (c .in-use .result) (c .before .known-places .ensures) (c .in-use .ensures)
 
 pub size-spec : {M : Type 1} → statement M
-size-spec = tie.close (tie.spec known-places-requires in-use-requires returns)
+size-spec = tie.close (tie.spec (λ c κs. search needs) (λ c κs. search needs) returns)

@@ -16,32 +16,14 @@ Inv-loop at n i x end j₀ j = has (drop i (take n at)) x ≡ has (drop j (take 
 abbrev μ-loop : tie.MeasureT-loop
 μ-loop at n i x end j₀ j = end - j
 
-known-places-requires : tie.Need-known-places-requires Inv-loop μ-loop
-known-places-requires c κs = search needs
-
-in-use-requires : tie.Need-in-use-requires Inv-loop μ-loop
-in-use-requires c κs = search needs
-
 loop-holds : tie.Need-loop-holds Inv-loop μ-loop
 loop-holds c = refl
-
-mul-if1 : tie.Need-mul-if1 Inv-loop μ-loop
-mul-if1 c = search needs
-
-element-copy-out-if1 : tie.Need-element-copy-out-if1 Inv-loop μ-loop
-element-copy-out-if1 c = search needs
 
 returns : tie.Need-returns Inv-loop μ-loop
 returns c =
     let l = c .before .before .before in
     let a = l .before .before .before .before .args in
     sym (l .loop .inv ∙ has-here (take (a .n) (a .at .now)) (l .loop .j) (a .x) (omega (arith, length-take (a .n) (a .at .now))) (c .if1 .taken ∙ sym (getD-take (a .n) (a .at .now) (l .loop .j) 0 (omega arith))))
-
-add-j : tie.Need-add-j Inv-loop μ-loop
-add-j c = search needs
-
-loop-less : tie.Need-loop-less Inv-loop μ-loop
-loop-less c = search needs
 
 loop-again : tie.Need-loop-again Inv-loop μ-loop
 loop-again c =
@@ -61,13 +43,13 @@ stands-from-spec =
     (tie.spec
     Inv-loop
     μ-loop
-    known-places-requires
-    in-use-requires
+    (λ c κs. search needs)
+    (λ c κs. search needs)
     loop-holds
-    mul-if1
-    element-copy-out-if1
+    (λ c. search needs)
+    (λ c. search needs)
     returns
-    add-j
-    loop-less
+    (λ c. search needs)
+    (λ c. search needs)
     loop-again
     returns-2)

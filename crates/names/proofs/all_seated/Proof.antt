@@ -21,29 +21,14 @@ abbrev μ-loop : tie.MeasureT-loop
 loop-holds : tie.Need-loop-holds Inv-loop μ-loop
 loop-holds c = (search needs, (search needs, none-yet (finds (c .before .args .slots .now) (c .before .args .names .now))))
 
-seated-requires : tie.Need-seated-requires Inv-loop μ-loop
-seated-requires c κs = search needs
-
-same-length : tie.Need-same-length Inv-loop μ-loop
-same-length c = search needs
-
 returns : tie.Need-returns Inv-loop μ-loop
 returns c = λ e. absurd (true-T e)
-
-add-row : tie.Need-add-row Inv-loop μ-loop
-add-row c = search needs
-
-loop-less : tie.Need-loop-less Inv-loop μ-loop
-loop-less c = search needs
 
 loop-again : tie.Need-loop-again Inv-loop μ-loop
 loop-again c =
     let l = c .before .before .before .before .before .before in
     let s = c .before .before .before .seated in
     (s .kept .0 ∙ l .loop .inv .0, (search needs, s .ensures (not-false _ (c .if1 .left)) (l .loop .inv .1 .1)))
-
-same-length-2 : tie.Need-same-length-2 Inv-loop μ-loop
-same-length-2 c = search needs
 
 returns-2 : tie.Need-returns-2 Inv-loop μ-loop
 returns-2 c =
@@ -58,11 +43,11 @@ all-seated-spec =
     Inv-loop
     μ-loop
     loop-holds
-    seated-requires
-    same-length
+    (λ c κs. search needs)
+    (λ c. search needs)
     returns
-    add-row
-    loop-less
+    (λ c. search needs)
+    (λ c. search needs)
     loop-again
-    same-length-2
+    (λ c. search needs)
     returns-2)

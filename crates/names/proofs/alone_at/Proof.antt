@@ -4,18 +4,9 @@ use borrow.Author.Needs.{needs}
 use Rattle.names.proofs.alone_at.Statement.{statement}
 use Rattle.names.proofs.alone_at.Tie as tie
 
-mul-if1 : tie.Need-mul-if1
-mul-if1 c = search needs
-
-element-copy-out-if1 : tie.Need-element-copy-out-if1
-element-copy-out-if1 c = search needs
-
 returns : tie.Need-returns
 unfolding alone
 returns c = rw (eq-eqb _ _ (c .if1 .taken))
-
-first-with-requires : tie.Need-first-with-requires
-first-with-requires c κs = search needs
 
 returns-2 : tie.Need-returns-2
 unfolding alone
@@ -23,4 +14,4 @@ returns-2 c = rw (ne-eqb _ _ (c .before .if1 .left), ← c .first-with .ensures)
 
 pub alone-at-spec : {M : Type 1} → statement M
 alone-at-spec =
-    tie.close (tie.spec mul-if1 element-copy-out-if1 returns first-with-requires returns-2)
+    tie.close (tie.spec (λ c. search needs) (λ c. search needs) returns (λ c κs. search needs) returns-2)

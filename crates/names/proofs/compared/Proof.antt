@@ -17,21 +17,12 @@ abbrev μ-loop : tie.MeasureT-loop
 loop-holds : tie.Need-loop-holds Inv-loop μ-loop
 loop-holds c = (search needs, none-yet (alone (c .args .names .now)))
 
-alone-at-requires : tie.Need-alone-at-requires Inv-loop μ-loop
-alone-at-requires c κs = search needs
-
 returns : tie.Need-returns Inv-loop μ-loop
 unfolding differ
 returns c =
     let l = c .before .before .before in
     let a = l .before .args in
     one-failed (alone (a .names .now)) (a .n) (l .loop .i) (omega arith) (sym (c .before .alone-at .ensures) ∙ not-true _ (c .if1 .taken))
-
-add-i : tie.Need-add-i Inv-loop μ-loop
-add-i c = search needs
-
-loop-less : tie.Need-loop-less Inv-loop μ-loop
-loop-less c = search needs
 
 loop-again : tie.Need-loop-again Inv-loop μ-loop
 loop-again c =
@@ -53,9 +44,9 @@ compared-spec =
     Inv-loop
     μ-loop
     loop-holds
-    alone-at-requires
+    (λ c κs. search needs)
     returns
-    add-i
-    loop-less
+    (λ c. search needs)
+    (λ c. search needs)
     loop-again
     returns-2)

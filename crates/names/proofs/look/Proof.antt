@@ -13,18 +13,9 @@ Inv-loop slots names name slot₀ left₀ slot left = (slot < 16384) × (lookIn 
 abbrev μ-loop : tie.MeasureT-loop
 μ-loop slots names name slot₀ left₀ slot left = left
 
-slot-of-requires : tie.Need-slot-of-requires Inv-loop μ-loop
-slot-of-requires c κs = search needs
-
 loop-holds : tie.Need-loop-holds Inv-loop μ-loop
 unfolding lookIn
 loop-holds c = (rw (c .slot-of .ensures) (slot-of-below _), rw (c .slot-of .ensures))
-
-mul-row : tie.Need-mul-row Inv-loop μ-loop
-mul-row c = search needs
-
-element-copy-out-row : tie.Need-element-copy-out-row Inv-loop μ-loop
-element-copy-out-row c = search needs
 
 returns : tie.Need-returns Inv-loop μ-loop
 returns c =
@@ -32,23 +23,11 @@ returns c =
     let a = l .before .before .args in
     sym (l .loop .inv .1 ∙ probe-none (a .slots .now) (a .names .now) (a .name) (l .loop .slot) (l .loop .left) (l .loop .left - 1) (omega arith) (c .if1 .taken))
 
-name-of-requires : tie.Need-name-of-requires Inv-loop μ-loop
-name-of-requires c κs = search needs
-
 returns-2 : tie.Need-returns-2 Inv-loop μ-loop
 returns-2 c =
     let l = c .before .before .before .before .before in
     let a = l .before .before .args in
     sym (l .loop .inv .1 ∙ probe-here (a .slots .now) (a .names .now) (a .name) (l .loop .slot) (l .loop .left) (l .loop .left - 1) (omega arith) (c .before .before .if1 .left) (sym (c .before .name-of .ensures) ∙ c .if2 .taken))
-
-slot-after-requires : tie.Need-slot-after-requires Inv-loop μ-loop
-slot-after-requires c κs = search needs
-
-sub-left : tie.Need-sub-left Inv-loop μ-loop
-sub-left c = search needs
-
-loop-less : tie.Need-loop-less Inv-loop μ-loop
-loop-less c = search needs
 
 loop-again : tie.Need-loop-again Inv-loop μ-loop
 loop-again c =
@@ -68,15 +47,15 @@ look-spec =
     (tie.spec
     Inv-loop
     μ-loop
-    slot-of-requires
+    (λ c κs. search needs)
     loop-holds
-    mul-row
-    element-copy-out-row
+    (λ c. search needs)
+    (λ c. search needs)
     returns
-    name-of-requires
+    (λ c κs. search needs)
     returns-2
-    slot-after-requires
-    sub-left
-    loop-less
+    (λ c κs. search needs)
+    (λ c. search needs)
+    (λ c. search needs)
     loop-again
     returns-3)

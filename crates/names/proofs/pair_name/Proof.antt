@@ -6,12 +6,6 @@ use borrow.Author.Needs.{needs}
 use Rattle.names.proofs.pair_name.Statement.{statement}
 use Rattle.names.proofs.pair_name.Tie as tie
 
-mul-result : tie.Need-mul-result
-mul-result c = search needs
-
-add-result : tie.Need-add-result
-add-result c = search needs
-
 returns : tie.Need-returns
 unfolding pairName
 returns c =
@@ -19,12 +13,6 @@ returns c =
     let p : min (a .a) (a .b) ≡ a .a = omega arith in
     let q : max (a .a) (a .b) ≡ a .b = omega arith in
     rw (p, q)
-
-mul-result-2 : tie.Need-mul-result-2
-mul-result-2 c = search needs
-
-add-result-2 : tie.Need-add-result-2
-add-result-2 c = search needs
 
 returns-2 : tie.Need-returns-2
 unfolding pairName
@@ -36,4 +24,4 @@ returns-2 c =
 
 pub pair-name-spec : {M : Type 1} → statement M
 pair-name-spec =
-    tie.close (tie.spec mul-result add-result returns mul-result-2 add-result-2 returns-2)
+    tie.close (tie.spec (λ c. search needs) (λ c. search needs) returns (λ c. search needs) (λ c. search needs) returns-2)

@@ -19,36 +19,12 @@ loop-holds : tie.Need-loop-holds Inv-loop μ-loop
 unfolding lastBefore
 loop-holds c = (search needs, (refl, none-yet (rises (c .args .names .now))))
 
-mul-follows : tie.Need-mul-follows Inv-loop μ-loop
-mul-follows c = search needs
-
-element-copy-out-follows : tie.Need-element-copy-out-follows Inv-loop μ-loop
-element-copy-out-follows c = search needs
-
-follows-requires : tie.Need-follows-requires Inv-loop μ-loop
-follows-requires c κs = search needs
-
 returns : tie.Need-returns Inv-loop μ-loop
 unfolding rises
 returns c =
     let l = c .before .before .before .before in
     let a = l .before .args in
     one-failed (rises (a .names .now)) (a .n) (l .loop .i) (omega arith) (rw (← l .loop .inv .1 .0) (sym (c .before .follows .ensures) ∙ not-true _ (c .if1 .taken)))
-
-mul-or-last : tie.Need-mul-or-last Inv-loop μ-loop
-mul-or-last c = search needs
-
-element-copy-out-or-last : tie.Need-element-copy-out-or-last Inv-loop μ-loop
-element-copy-out-or-last c = search needs
-
-or-last-requires : tie.Need-or-last-requires Inv-loop μ-loop
-or-last-requires c κs = search needs
-
-add-i : tie.Need-add-i Inv-loop μ-loop
-add-i c = search needs
-
-loop-less : tie.Need-loop-less Inv-loop μ-loop
-loop-less c = search needs
 
 loop-again : tie.Need-loop-again Inv-loop μ-loop
 unfolding rises
@@ -70,14 +46,14 @@ rising-spec =
     Inv-loop
     μ-loop
     loop-holds
-    mul-follows
-    element-copy-out-follows
-    follows-requires
+    (λ c. search needs)
+    (λ c. search needs)
+    (λ c κs. search needs)
     returns
-    mul-or-last
-    element-copy-out-or-last
-    or-last-requires
-    add-i
-    loop-less
+    (λ c. search needs)
+    (λ c. search needs)
+    (λ c κs. search needs)
+    (λ c. search needs)
+    (λ c. search needs)
     loop-again
     returns-2)

@@ -15,19 +15,10 @@ Inv-loop slots names name slot₀ left₀ slot left = (slot < 16384) × Reach sl
 abbrev μ-loop : tie.MeasureT-loop
 μ-loop slots names name slot₀ left₀ slot left = left
 
-slot-of-requires : tie.Need-slot-of-requires Inv-loop μ-loop
-slot-of-requires c κs = search needs
-
 loop-holds : tie.Need-loop-holds Inv-loop μ-loop
 loop-holds c =
     let a = c .before .before .args in
     (rw (c .slot-of .ensures) (slot-of-below _), rw (c .slot-of .ensures) (reach-start (a .slots .now) (a .names .now) (a .name)))
-
-mul-row : tie.Need-mul-row Inv-loop μ-loop
-mul-row c = search needs
-
-shared-slice-read-row : tie.Need-shared-slice-read-row Inv-loop μ-loop
-shared-slice-read-row c = search needs
 
 returns : tie.Need-returns Inv-loop μ-loop
 returns c =
@@ -35,20 +26,8 @@ returns c =
     let a = l .before .before .before .args in
     λ h. reach-seat (a .slots .now) (a .names .now) (a .name) (l .loop .left) (l .loop .left - 1) (l .loop .slot) (omega arith) (l .loop .inv .1) (omega (arith, h, l .before .before .before .pre)) (c .if1 .taken)
 
-name-of-requires : tie.Need-name-of-requires Inv-loop μ-loop
-name-of-requires c κs = search needs
-
 returns-2 : tie.Need-returns-2 Inv-loop μ-loop
 returns-2 c = λ h. let z : ⊥ = omega arith in absurd z
-
-slot-after-requires : tie.Need-slot-after-requires Inv-loop μ-loop
-slot-after-requires c κs = search needs
-
-sub-left : tie.Need-sub-left Inv-loop μ-loop
-sub-left c = search needs
-
-loop-less : tie.Need-loop-less Inv-loop μ-loop
-loop-less c = search needs
 
 loop-again : tie.Need-loop-again Inv-loop μ-loop
 loop-again c =
@@ -65,15 +44,15 @@ seat-spec =
     (tie.spec
     Inv-loop
     μ-loop
-    slot-of-requires
+    (λ c κs. search needs)
     loop-holds
-    mul-row
-    shared-slice-read-row
+    (λ c. search needs)
+    (λ c. search needs)
     returns
-    name-of-requires
+    (λ c κs. search needs)
     returns-2
-    slot-after-requires
-    sub-left
-    loop-less
+    (λ c κs. search needs)
+    (λ c. search needs)
+    (λ c. search needs)
     loop-again
     returns-3)

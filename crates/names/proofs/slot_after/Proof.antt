@@ -4,12 +4,9 @@ use borrow.Author.Needs.{needs}
 use Rattle.names.proofs.slot_after.Statement.{statement}
 use Rattle.names.proofs.slot_after.Tie as tie
 
-add-result : tie.Need-add-result
-add-result c = search needs
-
 returns : tie.Need-returns
 unfolding slotAfter
 returns c = refl
 
 pub slot-after-spec : {M : Type 1} → statement M
-slot-after-spec = tie.close (tie.spec add-result returns)
+slot-after-spec = tie.close (tie.spec (λ c. search needs) returns)

@@ -8,15 +8,6 @@ use Rattle.rules.specs.Mesh.{listOf}
 use Rattle.pairs.proofs.leads_to.Statement.{statement}
 use Rattle.pairs.proofs.leads_to.Tie as tie
 
-size-requires : tie.Need-size-requires
-size-requires c κs = search needs
-
-place-after-requires : tie.Need-place-after-requires
-place-after-requires c κs = search needs
-
-item-requires : tie.Need-item-requires
-item-requires c κs = search needs
-
 returns : tie.Need-returns
 returns c =
     let a = c .before .before .before .args in
@@ -24,4 +15,4 @@ returns c =
     rw (← next)
 
 pub leads-to-spec : {M : Type 1} → statement M
-leads-to-spec = tie.close (tie.spec size-requires place-after-requires item-requires returns)
+leads-to-spec = tie.close (tie.spec (λ c κs. search needs) (λ c κs. search needs) (λ c κs. search needs) returns)

@@ -4,12 +4,9 @@ use borrow.Author.Needs.{needs}
 use Rattle.pairs.proofs.marks.Statement.{statement}
 use Rattle.pairs.proofs.marks.Tie as tie
 
-mark-requires : tie.Need-mark-requires
-mark-requires c κs = search needs
-
 returns : tie.Need-returns
 unfolding marksOf
 returns c = c .mark .ensures
 
 pub marks-spec : {M : Type 1} → statement M
-marks-spec = tie.close (tie.spec mark-requires returns)
+marks-spec = tie.close (tie.spec (λ c κs. search needs) returns)

@@ -30,18 +30,6 @@ Inv-loop at n i a b j₀ j = (j ≤ i) × ((p : ℕ → Bool) → ((k : ℕ) →
 abbrev μ-loop : tie.MeasureT-loop
 μ-loop at n i a b j₀ j = i - j
 
-known-places-requires : tie.Need-known-places-requires Inv-loop μ-loop
-known-places-requires c κs = search needs
-
-mul-a : tie.Need-mul-a Inv-loop μ-loop
-mul-a c = search needs
-
-element-copy-out-a : tie.Need-element-copy-out-a Inv-loop μ-loop
-element-copy-out-a c = search needs
-
-place-after-requires : tie.Need-place-after-requires Inv-loop μ-loop
-place-after-requires c κs = search needs
-
 -- the place after i is one of the n
 next-few : (c : tie.After-place-after Inv-loop μ-loop) → c .place-after .result < c .before .before .before .before .args .n
 next-few c =
@@ -57,24 +45,6 @@ element-copy-out-b c = omega (arith, next-few c, c .before .before .before .befo
 loop-holds : tie.Need-loop-holds Inv-loop μ-loop
 unfolding someBelow
 loop-holds c = (search needs, λ p h. refl)
-
-mul-same-two : tie.Need-mul-same-two Inv-loop μ-loop
-mul-same-two c = search needs
-
-element-copy-out-same-two : tie.Need-element-copy-out-same-two Inv-loop μ-loop
-element-copy-out-same-two c = search needs
-
-add-same-two : tie.Need-add-same-two Inv-loop μ-loop
-add-same-two c = search needs
-
-mul-same-two-2 : tie.Need-mul-same-two-2 Inv-loop μ-loop
-mul-same-two-2 c = search needs
-
-element-copy-out-same-two-2 : tie.Need-element-copy-out-same-two-2 Inv-loop μ-loop
-element-copy-out-same-two-2 c = search needs
-
-same-two-requires : tie.Need-same-two-requires Inv-loop μ-loop
-same-two-requires c κs = search needs
 
 -- at the loop: each pair before i, by the array
 by-array : (l : tie.At-loop Inv-loop μ-loop) (k : ℕ) → let a = l .before .before .before .before .before .before .args in let per = listOf (first (a .at .now) (a .n)) in k < a .i → meets per (getD per (a .i) 0) (getD per (after (length per) (a .i)) 0) k ≡ sameTwo (getD (a .at .now) k 0) (getD (a .at .now) (k + 1) 0) (getD (a .at .now) (a .i) 0) (getD (a .at .now) (l .before .before .place-after .result) 0)
@@ -97,12 +67,6 @@ returns c =
     let meet = meets per (getD per (a .i) 0) (getD per (after (length per) (a .i)) 0) in
     sym (some-here meet (a .i) (l .loop .j) (search needs) (by-array l (l .loop .j) (search needs) ∙ sym (c .before .same-two .ensures) ∙ c .if1 .taken))
 
-add-j : tie.Need-add-j Inv-loop μ-loop
-add-j c = search needs
-
-loop-less : tie.Need-loop-less Inv-loop μ-loop
-loop-less c = search needs
-
 loop-again : tie.Need-loop-again Inv-loop μ-loop
 loop-again c =
     let l = c .before .before .before .before .before in
@@ -123,21 +87,21 @@ met-before-spec =
     (tie.spec
     Inv-loop
     μ-loop
-    known-places-requires
-    mul-a
-    element-copy-out-a
-    place-after-requires
+    (λ c κs. search needs)
+    (λ c. search needs)
+    (λ c. search needs)
+    (λ c κs. search needs)
     mul-b
     element-copy-out-b
     loop-holds
-    mul-same-two
-    element-copy-out-same-two
-    add-same-two
-    mul-same-two-2
-    element-copy-out-same-two-2
-    same-two-requires
+    (λ c. search needs)
+    (λ c. search needs)
+    (λ c. search needs)
+    (λ c. search needs)
+    (λ c. search needs)
+    (λ c κs. search needs)
     returns
-    add-j
-    loop-less
+    (λ c. search needs)
+    (λ c. search needs)
     loop-again
     returns-2)

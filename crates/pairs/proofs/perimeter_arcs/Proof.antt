@@ -13,22 +13,10 @@ Inv-loop arcs per n at₀ seen i₀ at i = (i ≤ length arcs) × Passed arcs (l
 abbrev μ-loop : tie.MeasureT-loop
 μ-loop arcs per n at₀ seen i₀ at i = length arcs - i
 
-size-requires : tie.Need-size-requires Inv-loop μ-loop
-size-requires c κs = search needs
-
-known-few-requires : tie.Need-known-few-requires Inv-loop μ-loop
-known-few-requires c κs = search needs
-
 returns : tie.Need-returns Inv-loop μ-loop
 returns c =
     let a = c .before .before .before .args in
     pass-large (a .arcs .now) (listOf (a .per)) (c .before .before .size .result) (c .before .before .size .ensures) (c .before .known-few .ensures) (c .if1 .taken)
-
-marks-requires : tie.Need-marks-requires Inv-loop μ-loop
-marks-requires c κs = search needs
-
-skip-requires : tie.Need-skip-requires Inv-loop μ-loop
-skip-requires c κs = search needs
 
 loop-holds : tie.Need-loop-holds Inv-loop μ-loop
 loop-holds c =
@@ -37,42 +25,6 @@ loop-holds c =
     let per = listOf (a .per) in
     let m = c .before .before .marks in
     (search needs, pass-run arcs per 0 (c .skip .result) (replicate 64 0) (m .result) (m .ensures) (c .skip .ensures .0) (c .skip .ensures .1 .1) (pass-start arcs per))
-
-mul-note : tie.Need-mul-note Inv-loop μ-loop
-mul-note c = search needs
-
-index-1-note : tie.Need-index-1-note Inv-loop μ-loop
-index-1-note c = search needs
-
-index-2-note : tie.Need-index-2-note Inv-loop μ-loop
-index-2-note c = search needs
-
-mul-note-2 : tie.Need-mul-note-2 Inv-loop μ-loop
-mul-note-2 c = search needs
-
-index-1-note-2 : tie.Need-index-1-note-2 Inv-loop μ-loop
-index-1-note-2 c = search needs
-
-index-2-note-2 : tie.Need-index-2-note-2 Inv-loop μ-loop
-index-2-note-2 c = search needs
-
-cast-note : tie.Need-cast-note Inv-loop μ-loop
-cast-note c = search needs
-
-add-note : tie.Need-add-note Inv-loop μ-loop
-add-note c = search needs
-
-note-requires : tie.Need-note-requires Inv-loop μ-loop
-note-requires c κs = search needs
-
-add-skip : tie.Need-add-skip Inv-loop μ-loop
-add-skip c = search needs
-
-skip-requires-2 : tie.Need-skip-requires-2 Inv-loop μ-loop
-skip-requires-2 c κs = search needs
-
-loop-less : tie.Need-loop-less Inv-loop μ-loop
-loop-less c = search needs
 
 loop-again : tie.Need-loop-again Inv-loop μ-loop
 loop-again c =
@@ -100,23 +52,23 @@ perimeter-arcs-spec =
     (tie.spec
     Inv-loop
     μ-loop
-    size-requires
-    known-few-requires
+    (λ c κs. search needs)
+    (λ c κs. search needs)
     returns
-    marks-requires
-    skip-requires
+    (λ c κs. search needs)
+    (λ c κs. search needs)
     loop-holds
-    mul-note
-    index-1-note
-    index-2-note
-    mul-note-2
-    index-1-note-2
-    index-2-note-2
-    cast-note
-    add-note
-    note-requires
-    add-skip
-    skip-requires-2
-    loop-less
+    (λ c. search needs)
+    (λ c. search needs)
+    (λ c. search needs)
+    (λ c. search needs)
+    (λ c. search needs)
+    (λ c. search needs)
+    (λ c. search needs)
+    (λ c. search needs)
+    (λ c κs. search needs)
+    (λ c. search needs)
+    (λ c κs. search needs)
+    (λ c. search needs)
     loop-again
     returns-2)

@@ -4,26 +4,8 @@ use borrow.Author.Needs.{needs}
 use Rattle.poke.proofs.part.Statement.{statement}
 use Rattle.poke.proofs.part.Tie as tie
 
-size-requires : tie.Need-size-requires
-size-requires c κs = search needs
-
-item-requires : tie.Need-item-requires
-item-requires c κs = search needs
-
-array-write-at : tie.Need-array-write-at
-array-write-at c = search needs
-
 place-after-requires : tie.Need-place-after-requires
 place-after-requires c κs = omega (arith, c .before .size .ensures)
-
-item-requires-2 : tie.Need-item-requires-2
-item-requires-2 c κs = search needs
-
-array-write-at-2 : tie.Need-array-write-at-2
-array-write-at-2 c = search needs
-
-array-write-at-3 : tie.Need-array-write-at-3
-array-write-at-3 c = search needs
 
 returns : tie.Need-returns
 unfolding linksOf placesOf
@@ -33,11 +15,11 @@ pub part-spec : {M : Type 1} → statement M
 part-spec =
     tie.close
     (tie.spec
-    size-requires
-    item-requires
-    array-write-at
+    (λ c κs. search needs)
+    (λ c κs. search needs)
+    (λ c. search needs)
     place-after-requires
-    item-requires-2
-    array-write-at-2
-    array-write-at-3
+    (λ c κs. search needs)
+    (λ c. search needs)
+    (λ c. search needs)
     returns)

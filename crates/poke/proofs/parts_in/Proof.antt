@@ -27,9 +27,6 @@ Inv-loop vertices₀ arcs₀ edges₀ faces₀ counters₀ past₀ pastedges₀ 
 abbrev μ-loop : tie.MeasureT-loop
 μ-loop vertices₀ arcs₀ edges₀ faces₀ counters₀ past₀ pastedges₀ seen near around vs c mark n i₀ vertices arcs edges faces counters past pastedges i = n - i
 
-size-requires : tie.Need-size-requires Inv-loop μ-loop
-size-requires c κs = search needs
-
 loop-holds : tie.Need-loop-holds Inv-loop μ-loop
 loop-holds c =
     let a = c .before .args in
@@ -49,9 +46,6 @@ insert-face-requires c κs =
       (k .ofp ∙ s .pre .0 .0 ∙ sym (k .ofa), k .ofq ∙ s .pre .0 .1 ∙ sym (k .ofe)),
       known-each (λ i n. insertFace n (getD (listOf (a .vs)) i 0 ∷ getD (listOf (a .vs)) (after (length (listOf (a .vs))) i) 0 ∷ a .c ∷ []) (a .mark)) (λ i n. filled-insert n (getD (listOf (a .vs)) i 0 ∷ getD (listOf (a .vs)) (after (length (listOf (a .vs))) i) 0 ∷ a .c ∷ []) (a .mark)) m₀ (l .i) m (a .seen .now) (a .near .now) (a .around) (l .inv .1 .1 []) (s .pre .1),
     )
-
-accepted-requires : tie.Need-accepted-requires Inv-loop μ-loop
-accepted-requires c κs = search needs
 
 same-length : tie.Need-same-length Inv-loop μ-loop
 same-length c = c .before .before .before .before .before .before .before .before .insert-face .kept .0 ∙ c .before .before .before .before .before .before .before .before .before .before .before .before .before .before .before .before .before .before .loop .inv .1 .0 .ofv
@@ -83,12 +77,6 @@ returns c =
     let per : List ℕ = getD (listOf (a .vs)) (l .i) 0 ∷ getD (listOf (a .vs)) (after (length (listOf (a .vs))) (l .i)) 0 ∷ a .c ∷ [] in
     each-stops (λ i n. insertFace n (getD (listOf (a .vs)) i 0 ∷ getD (listOf (a .vs)) (after (length (listOf (a .vs))) i) 0 ∷ a .c ∷ []) (a .mark)) (l .i) (length (listOf (a .vs))) m₀ m m′ (g .result) (omega (arith, c .before .before .before .before .before .before .before .before .before .before .before .before .before .before .before .before .before .before .before .size .ensures, c .before .before .before .before .before .before .before .before .before .before .before .before .before .before .before .before .before .loop-test .taken)) (l .inv .1 .1 p)
     (insert-held m (step m′ (g .result)) (c .before .before .before .before .before .before .before .before .before .part .result) per (a .mark) (omega arith) (c .before .before .before .before .before .before .before .before .before .part .ensures) (g .ensures p)) (sym (c .before .accepted .ensures) ∙ not-true _ (c .if1 .taken))
-
-add-i : tie.Need-add-i Inv-loop μ-loop
-add-i c = search needs
-
-loop-less : tie.Need-loop-less Inv-loop μ-loop
-loop-less c = search needs
 
 loop-again : tie.Need-loop-again Inv-loop μ-loop
 loop-again c =
@@ -139,11 +127,11 @@ parts-in-spec =
     (tie.spec
     Inv-loop
     μ-loop
-    size-requires
+    (λ c κs. search needs)
     loop-holds
     part-requires
     insert-face-requires
-    accepted-requires
+    (λ c κs. search needs)
     same-length
     same-length-2
     same-length-3
@@ -151,8 +139,8 @@ parts-in-spec =
     same-length-5
     same-length-6
     returns
-    add-i
-    loop-less
+    (λ c. search needs)
+    (λ c. search needs)
     loop-again
     same-length-7
     same-length-8

@@ -4,15 +4,6 @@ use borrow.Author.Needs.{needs}
 use Rattle.poke.proofs.parts_near.Statement.{statement}
 use Rattle.poke.proofs.parts_near.Tie as tie
 
-known-few-requires : tie.Need-known-few-requires
-known-few-requires c κs = search needs
-
-size-requires : tie.Need-size-requires
-size-requires c κs = search needs
-
-two-requires : tie.Need-two-requires
-two-requires c κs = search needs
-
 near-edit-requires : tie.Need-near-edit-requires
 near-edit-requires c κs = omega (arith, c .before .before .before .before .before .before .size .ensures, c .before .before .before .before .before .before .before .known-few .ensures)
 
@@ -44,9 +35,9 @@ pub parts-near-spec : {M : Type 1} → statement M
 parts-near-spec =
     tie.close
     (tie.spec
-    known-few-requires
-    size-requires
-    two-requires
+    (λ c κs. search needs)
+    (λ c κs. search needs)
+    (λ c κs. search needs)
     near-edit-requires
     parts-in-requires
     same-length

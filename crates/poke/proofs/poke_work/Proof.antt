@@ -7,26 +7,11 @@ use borrow.Author.Needs.{needs}
 use Rattle.poke.proofs.poke_work.Statement.{statement}
 use Rattle.poke.proofs.poke_work.Tie as tie
 
-vertices-of-requires : tie.Need-vertices-of-requires
-vertices-of-requires c κs = search needs
-
-cell3-requires : tie.Need-cell3-requires
-cell3-requires c κs = search needs
-
-element-copy-out-key : tie.Need-element-copy-out-key
-element-copy-out-key c = search needs
-
-remove-face-requires : tie.Need-remove-face-requires
-remove-face-requires c κs = search needs
-
 new-vertex-requires : tie.Need-new-vertex-requires
 new-vertex-requires c κs = λ k q. let z : ⊥ = omega arith in absurd z
 
 parts-near-requires : tie.Need-parts-near-requires
 parts-near-requires c κs = (c .before .before .before .before .before .before .before .before .before .before .before .before .before .before .before .before .before .before .before .before .before .before .before .before .pre .0 ∙ sym (c .before .before .before .before .before .before .before .before .before .before .before .before .before .before .before .remove-face .kept .0), c .before .before .before .before .before .before .before .before .before .before .before .before .before .before .before .before .before .before .before .before .before .before .before .before .pre .1)
-
-answering-requires : tie.Need-answering-requires
-answering-requires c κs = search needs
 
 same-length : tie.Need-same-length
 same-length c = c .before .before .before .before .before .before .before .parts-near .kept .0 ∙ c .before .before .before .before .before .before .before .before .before .before .before .before .before .before .before .before .before .new-vertex .kept .0
@@ -65,13 +50,13 @@ pub poke-work-spec : {M : Type 1} → statement M
 poke-work-spec =
     tie.close
     (tie.spec
-    vertices-of-requires
-    cell3-requires
-    element-copy-out-key
-    remove-face-requires
+    (λ c κs. search needs)
+    (λ c κs. search needs)
+    (λ c. search needs)
+    (λ c κs. search needs)
     new-vertex-requires
     parts-near-requires
-    answering-requires
+    (λ c κs. search needs)
     same-length
     same-length-2
     same-length-3

@@ -5,9 +5,6 @@ use borrow.Author.Needs.{needs}
 use Rattle.split.proofs.half_checks.Statement.{statement}
 use Rattle.split.proofs.half_checks.Tie as tie
 
-known-few-requires : tie.Need-known-few-requires
-known-few-requires c κs = search needs
-
 perimeter-arcs-near-requires : tie.Need-perimeter-arcs-near-requires
 perimeter-arcs-near-requires c κs = c .before .pre
 
@@ -24,7 +21,7 @@ pub half-checks-spec : {M : Type 1} → statement M
 half-checks-spec =
     tie.close
     (tie.spec
-    known-few-requires
+    (λ c κs. search needs)
     perimeter-arcs-near-requires
     insert-checks-by-requires
     returns)

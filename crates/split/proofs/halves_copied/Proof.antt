@@ -7,33 +7,6 @@ use borrow.Author.Needs.{needs}
 use Rattle.split.proofs.halves_copied.Statement.{statement}
 use Rattle.split.proofs.halves_copied.Tie as tie
 
-known-few-requires : tie.Need-known-few-requires
-known-few-requires c κs = search needs
-
-known-few-requires-2 : tie.Need-known-few-requires-2
-known-few-requires-2 c κs = search needs
-
-copy6-requires : tie.Need-copy6-requires
-copy6-requires c κs = search needs
-
-copy3-requires : tie.Need-copy3-requires
-copy3-requires c κs = search needs
-
-count-used6-requires : tie.Need-count-used6-requires
-count-used6-requires c κs = search needs
-
-leading-arcs-requires : tie.Need-leading-arcs-requires
-leading-arcs-requires c κs = search needs
-
-leading-arcs-requires-2 : tie.Need-leading-arcs-requires-2
-leading-arcs-requires-2 c κs = search needs
-
-put-face-requires : tie.Need-put-face-requires
-put-face-requires c κs = search needs
-
-put-face-requires-2 : tie.Need-put-face-requires-2
-put-face-requires-2 c κs = search needs
-
 same-length : tie.Need-same-length
 same-length c = c .before .before .before .before .put-face2 .kept .0 ∙ c .before .before .before .before .before .before .before .before .before .before .before .before .before .before .before .before .put-face .kept .0
 
@@ -72,15 +45,15 @@ pub halves-copied-spec : {M : Type 1} → statement M
 halves-copied-spec =
     tie.close
     (tie.spec
-    known-few-requires
-    known-few-requires-2
-    copy6-requires
-    copy3-requires
-    count-used6-requires
-    leading-arcs-requires
-    leading-arcs-requires-2
-    put-face-requires
-    put-face-requires-2
+    (λ c κs. search needs)
+    (λ c κs. search needs)
+    (λ c κs. search needs)
+    (λ c κs. search needs)
+    (λ c κs. search needs)
+    (λ c κs. search needs)
+    (λ c κs. search needs)
+    (λ c κs. search needs)
+    (λ c κs. search needs)
     same-length
     same-length-2
     same-length-3

@@ -8,47 +8,8 @@ use borrow.Author.Needs.{needs}
 use Rattle.split.proofs.halves_in.Statement.{statement}
 use Rattle.split.proofs.halves_in.Tie as tie
 
-known-few-requires : tie.Need-known-few-requires
-known-few-requires c κs = search needs
-
-known-few-requires-2 : tie.Need-known-few-requires-2
-known-few-requires-2 c κs = search needs
-
-leading-arcs-requires : tie.Need-leading-arcs-requires
-leading-arcs-requires c κs = search needs
-
-leading-arcs-requires-2 : tie.Need-leading-arcs-requires-2
-leading-arcs-requires-2 c κs = search needs
-
-slice-aggregate-both-taken : tie.Need-slice-aggregate-both-taken
-slice-aggregate-both-taken c = search needs
-
-slice-aggregate-both-taken-2 : tie.Need-slice-aggregate-both-taken-2
-slice-aggregate-both-taken-2 c = search needs
-
-both-taken-requires : tie.Need-both-taken-requires
-both-taken-requires c κs = search needs
-
-slice-aggregate-halves-taken : tie.Need-slice-aggregate-halves-taken
-slice-aggregate-halves-taken c = search needs
-
-slice-aggregate-halves-taken-2 : tie.Need-slice-aggregate-halves-taken-2
-slice-aggregate-halves-taken-2 c = search needs
-
 halves-taken-requires : tie.Need-halves-taken-requires
 halves-taken-requires c κs = ((omega (arith, c .before .before .before .before .before .before .before .before .before .before .before .before .before .before .before .before .before .before .before .before .known-few .ensures, c .before .before .before .before .before .before .before .before .before .before .both-taken .kept .1 .1 .1 .1 .0), omega (arith, c .before .before .before .before .before .before .before .before .before .before .before .before .before .before .before .before .before .before .before .known-few2 .ensures, c .before .before .before .before .before .before .before .before .before .before .both-taken .kept .1 .1 .1 .1 .1 .0)), c .before .before .before .before .before .before .before .before .before .before .before .before .before .before .before .before .before .before .before .before .before .pre .1)
-
-same-length : tie.Need-same-length
-same-length c = search needs
-
-same-length-2 : tie.Need-same-length-2
-same-length-2 c = search needs
-
-same-length-3 : tie.Need-same-length-3
-same-length-3 c = search needs
-
-same-length-4 : tie.Need-same-length-4
-same-length-4 c = search needs
 
 returns : tie.Need-returns
 returns c =
@@ -64,51 +25,30 @@ returns c =
 halves-copied-requires : tie.Need-halves-copied-requires
 halves-copied-requires c κs = c .before .before .before .before .before .before .before .before .before .before .before .before .before .before .before .before .before .before .before .before .before .pre .0
 
-same-length-5 : tie.Need-same-length-5
-same-length-5 c = search needs
-
-same-length-6 : tie.Need-same-length-6
-same-length-6 c = search needs
-
-same-length-7 : tie.Need-same-length-7
-same-length-7 c = search needs
-
-same-length-8 : tie.Need-same-length-8
-same-length-8 c = search needs
-
-same-length-9 : tie.Need-same-length-9
-same-length-9 c = search needs
-
-same-length-10 : tie.Need-same-length-10
-same-length-10 c = search needs
-
-returns-2 : tie.Need-returns-2
-returns-2 c = search needs
-
 pub halves-in-spec : {M : Type 1} → statement M
 halves-in-spec =
     tie.close
     (tie.spec
-    known-few-requires
-    known-few-requires-2
-    leading-arcs-requires
-    leading-arcs-requires-2
-    slice-aggregate-both-taken
-    slice-aggregate-both-taken-2
-    both-taken-requires
-    slice-aggregate-halves-taken
-    slice-aggregate-halves-taken-2
+    (λ c κs. search needs)
+    (λ c κs. search needs)
+    (λ c κs. search needs)
+    (λ c κs. search needs)
+    (λ c. search needs)
+    (λ c. search needs)
+    (λ c κs. search needs)
+    (λ c. search needs)
+    (λ c. search needs)
     halves-taken-requires
-    same-length
-    same-length-2
-    same-length-3
-    same-length-4
+    (λ c. search needs)
+    (λ c. search needs)
+    (λ c. search needs)
+    (λ c. search needs)
     returns
     halves-copied-requires
-    same-length-5
-    same-length-6
-    same-length-7
-    same-length-8
-    same-length-9
-    same-length-10
-    returns-2)
+    (λ c. search needs)
+    (λ c. search needs)
+    (λ c. search needs)
+    (λ c. search needs)
+    (λ c. search needs)
+    (λ c. search needs)
+    (λ c. search needs))

@@ -11,12 +11,6 @@ use borrow.Author.Needs.{needs}
 use Rattle.split.proofs.halves_taken.Statement.{statement}
 use Rattle.split.proofs.halves_taken.Tie as tie
 
-known-few-requires : tie.Need-known-few-requires
-known-few-requires c κs = search needs
-
-known-few-requires-2 : tie.Need-known-few-requires-2
-known-few-requires-2 c κs = search needs
-
 perimeter-arcs-near-requires : tie.Need-perimeter-arcs-near-requires
 perimeter-arcs-near-requires c κs = c .before .before .before .before .before .pre .1 .listed
 
@@ -47,18 +41,6 @@ put-face-taken-requires-2 c κs =
     let found = c .before .before .before .before .before .perimeter-arcs-near2 in
     ((c .before .before .before .before .before .before .before .before .before .before .before .before .before .before .before .before .before .before .before .before .before .before .before .pre .0 .1, arcs-held (c .before .before .before .before .before .before .before .before .before .before .before .put-face-taken .last .1 .0) (listOf (a .right)) (found .result) (c .before .before .before .before .before .before .before .before .before .before .before .before .before .before .before .before .before .before .before .before .before .known-few2 .ensures) (found .ensures)), (k .arcs-used, (k .edges-used, k .faces-used)))
 
-same-length : tie.Need-same-length
-same-length c = search needs
-
-same-length-2 : tie.Need-same-length-2
-same-length-2 c = search needs
-
-same-length-3 : tie.Need-same-length-3
-same-length-3 c = search needs
-
-same-length-4 : tie.Need-same-length-4
-same-length-4 c = search needs
-
 returns : tie.Need-returns
 returns c =
     λ p.
@@ -69,14 +51,14 @@ pub halves-taken-spec : {M : Type 1} → statement M
 halves-taken-spec =
     tie.close
     (tie.spec
-    known-few-requires
-    known-few-requires-2
+    (λ c κs. search needs)
+    (λ c κs. search needs)
     perimeter-arcs-near-requires
     put-face-taken-requires
     perimeter-arcs-near-requires-2
     put-face-taken-requires-2
-    same-length
-    same-length-2
-    same-length-3
-    same-length-4
+    (λ c. search needs)
+    (λ c. search needs)
+    (λ c. search needs)
+    (λ c. search needs)
     returns)

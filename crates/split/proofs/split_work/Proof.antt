@@ -6,38 +6,11 @@ use borrow.Author.Needs.{needs}
 use Rattle.split.proofs.split_work.Statement.{statement}
 use Rattle.split.proofs.split_work.Tie as tie
 
-half-requires : tie.Need-half-requires
-half-requires c κs = search needs
-
-half-requires-2 : tie.Need-half-requires-2
-half-requires-2 c κs = search needs
-
-key-at-requires : tie.Need-key-at-requires
-key-at-requires c κs = search needs
-
-key-at-requires-2 : tie.Need-key-at-requires-2
-key-at-requires-2 c κs = search needs
-
-remove-face-requires : tie.Need-remove-face-requires
-remove-face-requires c κs = search needs
-
-near-edit-requires : tie.Need-near-edit-requires
-near-edit-requires c κs = search needs
-
 half-checks-requires : tie.Need-half-checks-requires
 half-checks-requires c κs = c .before .before .before .before .near-edit .ensures .listed
 
-accepted-requires : tie.Need-accepted-requires
-accepted-requires c κs = search needs
-
-same-length : tie.Need-same-length
-same-length c = search needs
-
 same-length-2 : tie.Need-same-length-2
 same-length-2 c = c .before .before .before .before .before .before .before .before .before .before .before .before .before .before .before .remove-face .kept .0
-
-same-length-3 : tie.Need-same-length-3
-same-length-3 c = search needs
 
 same-length-4 : tie.Need-same-length-4
 same-length-4 c = c .before .before .before .before .before .before .before .before .before .before .before .before .before .before .before .remove-face .kept .1 .0
@@ -54,17 +27,8 @@ returns c =
 half-checks-requires-2 : tie.Need-half-checks-requires-2
 half-checks-requires-2 c κs = c .before .before .before .before .before .before .before .before .before .before .near-edit .ensures .listed
 
-accepted-requires-2 : tie.Need-accepted-requires-2
-accepted-requires-2 c κs = search needs
-
-same-length-5 : tie.Need-same-length-5
-same-length-5 c = search needs
-
 same-length-6 : tie.Need-same-length-6
 same-length-6 c = c .before .before .before .before .before .before .before .before .before .before .before .before .before .before .before .before .before .before .before .before .before .remove-face .kept .0
-
-same-length-7 : tie.Need-same-length-7
-same-length-7 c = search needs
 
 same-length-8 : tie.Need-same-length-8
 same-length-8 c = c .before .before .before .before .before .before .before .before .before .before .before .before .before .before .before .before .before .before .before .before .before .remove-face .kept .1 .0
@@ -114,24 +78,24 @@ pub split-work-spec : {M : Type 1} → statement M
 split-work-spec =
     tie.close
     (tie.spec
-    half-requires
-    half-requires-2
-    key-at-requires
-    key-at-requires-2
-    remove-face-requires
-    near-edit-requires
+    (λ c κs. search needs)
+    (λ c κs. search needs)
+    (λ c κs. search needs)
+    (λ c κs. search needs)
+    (λ c κs. search needs)
+    (λ c κs. search needs)
     half-checks-requires
-    accepted-requires
-    same-length
+    (λ c κs. search needs)
+    (λ c. search needs)
     same-length-2
-    same-length-3
+    (λ c. search needs)
     same-length-4
     returns
     half-checks-requires-2
-    accepted-requires-2
-    same-length-5
+    (λ c κs. search needs)
+    (λ c. search needs)
     same-length-6
-    same-length-7
+    (λ c. search needs)
     same-length-8
     returns-2
     halves-in-requires

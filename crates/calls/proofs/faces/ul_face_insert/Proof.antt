@@ -13,12 +13,6 @@ use Rattle.calls.proofs.Replying.{replied-by}
 use Rattle.calls.proofs.faces.ul_face_insert.Statement.{statement}
 use Rattle.calls.proofs.faces.ul_face_insert.Tie as tie
 
-change-requires : tie.Need-change-requires
-change-requires c κs = search needs
-
-told-requires : tie.Need-told-requires
-told-requires c κs = search needs
-
 same-length : tie.Need-same-length
 same-length c = c .before .before .before .before .before .before .before .before .before .before .before .before .before .before .before .before .change .kept .0
 
@@ -78,8 +72,8 @@ pub ul-face-insert-spec : {M : Type 1} → statement M
 ul-face-insert-spec =
     tie.close
     (tie.spec
-    change-requires
-    told-requires
+    (λ c κs. search needs)
+    (λ c κs. search needs)
     same-length
     same-length-2
     same-length-3

@@ -4,14 +4,8 @@ use Rattle.rules.specs.Step.{told}
 use Rattle.calls.proofs.queries.ul_check_finished.Statement.{statement}
 use Rattle.calls.proofs.queries.ul_check_finished.Tie as tie
 
-check-finished-requires : tie.Need-check-finished-requires
-check-finished-requires c κs = search needs
-
-told-requires : tie.Need-told-requires
-told-requires c κs = search needs
-
 returns : tie.Need-returns
 returns c = c .told .ensures ∙ ap told (c .before .check-finished .ensures)
 
 pub ul-check-finished-spec : {M : Type 1} → statement M
-ul-check-finished-spec = tie.close (tie.spec check-finished-requires told-requires returns)
+ul-check-finished-spec = tie.close (tie.spec (λ c κs. search needs) (λ c κs. search needs) returns)

@@ -4,14 +4,8 @@ use Rattle.rules.specs.Step.{told}
 use Rattle.calls.proofs.queries.ul_check_sound.Statement.{statement}
 use Rattle.calls.proofs.queries.ul_check_sound.Tie as tie
 
-check-sound-requires : tie.Need-check-sound-requires
-check-sound-requires c κs = search needs
-
-told-requires : tie.Need-told-requires
-told-requires c κs = search needs
-
 returns : tie.Need-returns
 returns c = c .told .ensures ∙ ap told (c .before .check-sound .ensures)
 
 pub ul-check-sound-spec : {M : Type 1} → statement M
-ul-check-sound-spec = tie.close (tie.spec check-sound-requires told-requires returns)
+ul-check-sound-spec = tie.close (tie.spec (λ c κs. search needs) (λ c κs. search needs) returns)

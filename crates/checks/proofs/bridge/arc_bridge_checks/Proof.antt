@@ -5,9 +5,6 @@ use Rattle.checks.proofs.bridge.arc_bridge_checks.Tie as tie
 use borrow.Author.Tests.{eq-eqb, ne-eqb}
 use Rattle.rules.specs.Edit.{arcBridgeChecks}
 
-arcs-between-requires : tie.Need-arcs-between-requires
-arcs-between-requires c κs = search needs
-
 returns : tie.Need-returns
 unfolding arcBridgeChecks
 returns c = λ vs ps es fs ks. rw (← c .before .arcs-between .ensures .0 .one, eq-eqb _ _ (c .if1 .taken))
@@ -34,7 +31,7 @@ pub arc-bridge-checks-spec : {M : Type 1} → statement M
 arc-bridge-checks-spec =
     tie.close
     (tie.spec
-    arcs-between-requires
+    (λ c κs. search needs)
     returns
     returns-2
     arc-bridge-checks-by-requires

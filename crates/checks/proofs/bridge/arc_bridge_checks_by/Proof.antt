@@ -19,9 +19,6 @@ returns-2 : tie.Need-returns-2
 unfolding arcBridgeChecks
 returns-2 c = λ vs ps es fs ks. rw (ne-eqb _ _ (c .before .if1 .left), eq-eqb _ _ (c .if2 .taken))
 
-corners-faced-requires : tie.Need-corners-faced-requires
-corners-faced-requires c κs = search needs
-
 returns-3 : tie.Need-returns-3
 unfolding arcBridgeChecks
 returns-3 c =
@@ -51,7 +48,7 @@ arc-bridge-checks-by-spec =
     (tie.spec
     returns
     returns-2
-    corners-faced-requires
+    (λ c κs. search needs)
     returns-3
     insert-checks-by-requires
     returns-4)

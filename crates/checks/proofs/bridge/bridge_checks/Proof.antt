@@ -14,12 +14,6 @@ returns-2 : tie.Need-returns-2
 unfolding bridgeChecks
 returns-2 c = λ vs ps es ks. rw (ne-eqb _ _ (c .before .if1 .left), eq-eqb _ _ (c .if2 .taken))
 
-arity-of-requires : tie.Need-arity-of-requires
-arity-of-requires c κs = search needs
-
-arity-of-requires-2 : tie.Need-arity-of-requires-2
-arity-of-requires-2 c κs = search needs
-
 returns-3 : tie.Need-returns-3
 unfolding bridgeChecks
 returns-3 c = λ vs ps es ks. rw (ne-eqb _ _ (c .before .before .before .before .if1 .left), ne-eqb _ _ (c .before .before .before .if2 .left), ← c .before .before .arity-of .ensures vs ps es ks, ← c .before .arity-of2 .ensures vs ps es ks, ne-eqb _ _ (c .if3 .taken))
@@ -38,8 +32,8 @@ bridge-checks-spec =
     (tie.spec
     returns
     returns-2
-    arity-of-requires
-    arity-of-requires-2
+    (λ c κs. search needs)
+    (λ c κs. search needs)
     returns-3
     returns-4
     returns-5)

@@ -16,30 +16,9 @@ Inv-loop four at₀ i₀ at i = (i ≤ 4) × (at ≡ placesOf (take i four))
 abbrev μ-loop : tie.MeasureT-loop
 μ-loop four at₀ i₀ at i = 4 - i
 
-known-four-requires : tie.Need-known-four-requires Inv-loop μ-loop
-known-four-requires c κs = search needs
-
 loop-holds : tie.Need-loop-holds Inv-loop μ-loop
 unfolding placesOf
 loop-holds c = (search needs, refl)
-
-mul-at : tie.Need-mul-at Inv-loop μ-loop
-mul-at c = search needs
-
-array-read-at : tie.Need-array-read-at Inv-loop μ-loop
-array-read-at c = search needs
-
-mul-at-2 : tie.Need-mul-at-2 Inv-loop μ-loop
-mul-at-2 c = search needs
-
-array-write-at : tie.Need-array-write-at Inv-loop μ-loop
-array-write-at c = search needs
-
-add-i : tie.Need-add-i Inv-loop μ-loop
-add-i c = search needs
-
-loop-less : tie.Need-loop-less Inv-loop μ-loop
-loop-less c = search needs
 
 loop-again : tie.Need-loop-again Inv-loop μ-loop
 loop-again c =
@@ -58,13 +37,13 @@ corner-list-spec =
     (tie.spec
     Inv-loop
     μ-loop
-    known-four-requires
+    (λ c κs. search needs)
     loop-holds
-    mul-at
-    array-read-at
-    mul-at-2
-    array-write-at
-    add-i
-    loop-less
+    (λ c. search needs)
+    (λ c. search needs)
+    (λ c. search needs)
+    (λ c. search needs)
+    (λ c. search needs)
+    (λ c. search needs)
     loop-again
     returns)

@@ -7,25 +7,10 @@ use borrow.Author.Needs.{needs}
 use Rattle.checks.proofs.bridge.corners_between.Statement.{statement}
 use Rattle.checks.proofs.bridge.corners_between.Tie as tie
 
-arcs-between-requires : tie.Need-arcs-between-requires
-arcs-between-requires c κs = search needs
-
 returns : tie.Need-returns
 returns c =
     let t = c .before .before .arcs-between in
     (t .ensures .0, t .ensures .1 (c .before .if1 .taken) (c .if2 .taken))
-
-corners-of-requires : tie.Need-corners-of-requires
-corners-of-requires c κs = search needs
-
-corner-list-requires : tie.Need-corner-list-requires
-corner-list-requires c κs = search needs
-
-known-few-requires : tie.Need-known-few-requires
-known-few-requires c κs = search needs
-
-perimeter-arcs-requires : tie.Need-perimeter-arcs-requires
-perimeter-arcs-requires c κs = search needs
 
 returns-2 : tie.Need-returns-2
 returns-2 c =
@@ -44,10 +29,10 @@ pub corners-between-spec : {M : Type 1} → statement M
 corners-between-spec =
     tie.close
     (tie.spec
-    arcs-between-requires
+    (λ c κs. search needs)
     returns
-    corners-of-requires
-    corner-list-requires
-    known-few-requires
-    perimeter-arcs-requires
+    (λ c κs. search needs)
+    (λ c κs. search needs)
+    (λ c κs. search needs)
+    (λ c κs. search needs)
     returns-2)

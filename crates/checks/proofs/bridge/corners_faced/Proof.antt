@@ -24,20 +24,11 @@ loop-holds : tie.Need-loop-holds Inv-loop μ-loop
 unfolding someBelow
 loop-holds c = (search needs, λ vs ps es fs ks four e. refl)
 
-has-face-requires : tie.Need-has-face-requires Inv-loop μ-loop
-has-face-requires c κs = search needs
-
 returns : tie.Need-returns Inv-loop μ-loop
 returns c =
     let l = c .before .before .before in
     let a = c .before .before .before .before .args in
     λ vs ps es fs ks four e. sym (some-here (hasFace (mesh vs ps (a .arcs .now) es fs ks) four) 4 (l .loop .i) (search needs) (sym (c .before .has-face .ensures vs ps es fs ks four e) ∙ c .if1 .taken))
-
-add-i : tie.Need-add-i Inv-loop μ-loop
-add-i c = search needs
-
-loop-less : tie.Need-loop-less Inv-loop μ-loop
-loop-less c = search needs
 
 loop-again : tie.Need-loop-again Inv-loop μ-loop
 loop-again c =
@@ -58,9 +49,9 @@ corners-faced-spec =
     Inv-loop
     μ-loop
     loop-holds
-    has-face-requires
+    (λ c κs. search needs)
     returns
-    add-i
-    loop-less
+    (λ c. search needs)
+    (λ c. search needs)
     loop-again
     returns-2)

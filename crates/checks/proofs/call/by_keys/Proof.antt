@@ -6,16 +6,10 @@ use Prim.Native.Nat.{_-_}
 use Rattle.rules.specs.Mesh.{mesh}
 use Rattle.checks.proofs.Pairs.{per-back}
 
-from-keys-requires : tie.Need-from-keys-requires
-from-keys-requires c κs = search needs
-
-vertices-by-keys-requires : tie.Need-vertices-by-keys-requires
-vertices-by-keys-requires c κs = search needs
-
 returns : tie.Need-returns
 returns c =
     let a = c .before .before .before .args in
     λ few ps ar es fs ks. per-back (mesh (a .vertices .now) ps ar es fs ks) (a .keys .now) few (c .before .from-keys .result) (c .before .from-keys .ensures) (c .vertices-by-keys .result) (c .vertices-by-keys .ensures)
 
 pub by-keys-spec : {M : Type 1} → statement M
-by-keys-spec = tie.close (tie.spec from-keys-requires vertices-by-keys-requires returns)
+by-keys-spec = tie.close (tie.spec (λ c κs. search needs) (λ c κs. search needs) returns)

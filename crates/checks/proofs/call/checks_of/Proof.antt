@@ -9,93 +9,6 @@ use Rattle.rules.specs.Call.{checks}
 use Rattle.checks.proofs.Between.{one-key, other-key}
 use Rattle.rules.proofs.Places.{list-back}
 
-enum-told : tie.Need-enum-told
-enum-told c = search needs
-
-enum-told-2 : tie.Need-enum-told-2
-enum-told-2 c = search needs
-
-from-keys-requires : tie.Need-from-keys-requires
-from-keys-requires c κs = search needs
-
-by-keys-requires : tie.Need-by-keys-requires
-by-keys-requires c κs = search needs
-
-insert-checks-requires : tie.Need-insert-checks-requires
-insert-checks-requires c κs = search needs
-
-enum-known-edit : tie.Need-enum-known-edit
-enum-known-edit c = search needs
-
-find-key3-requires : tie.Need-find-key3-requires
-find-key3-requires c κs = search needs
-
-known-requires : tie.Need-known-requires
-known-requires c κs = search needs
-
-enum-known-edit-2 : tie.Need-enum-known-edit-2
-enum-known-edit-2 c = search needs
-
-find-key2-requires : tie.Need-find-key2-requires
-find-key2-requires c κs = search needs
-
-find-key2-requires-2 : tie.Need-find-key2-requires-2
-find-key2-requires-2 c κs = search needs
-
-find-key3-requires-2 : tie.Need-find-key3-requires-2
-find-key3-requires-2 c κs = search needs
-
-split-checks-requires : tie.Need-split-checks-requires
-split-checks-requires c κs = search needs
-
-enum-known-edit-3 : tie.Need-enum-known-edit-3
-enum-known-edit-3 c = search needs
-
-find-key3-requires-3 : tie.Need-find-key3-requires-3
-find-key3-requires-3 c κs = search needs
-
-known-requires-2 : tie.Need-known-requires-2
-known-requires-2 c κs = search needs
-
-enum-known-edit-4 : tie.Need-enum-known-edit-4
-enum-known-edit-4 c = search needs
-
-find-key3-requires-4 : tie.Need-find-key3-requires-4
-find-key3-requires-4 c κs = search needs
-
-find-key3-requires-5 : tie.Need-find-key3-requires-5
-find-key3-requires-5 c κs = search needs
-
-bridge-checks-requires : tie.Need-bridge-checks-requires
-bridge-checks-requires c κs = search needs
-
-enum-known-edit-5 : tie.Need-enum-known-edit-5
-enum-known-edit-5 c = search needs
-
-find-key3-requires-6 : tie.Need-find-key3-requires-6
-find-key3-requires-6 c κs = search needs
-
-known-requires-3 : tie.Need-known-requires-3
-known-requires-3 c κs = search needs
-
-enum-known-edit-6 : tie.Need-enum-known-edit-6
-enum-known-edit-6 c = search needs
-
-four-by-keys-requires : tie.Need-four-by-keys-requires
-four-by-keys-requires c κs = search needs
-
-arc-bridge-checks-requires : tie.Need-arc-bridge-checks-requires
-arc-bridge-checks-requires c κs = search needs
-
-enum-known-edit-7 : tie.Need-enum-known-edit-7
-enum-known-edit-7 c = search needs
-
-arc-by-keys-requires : tie.Need-arc-by-keys-requires
-arc-by-keys-requires c κs = search needs
-
-arc-extrude-checks-requires : tie.Need-arc-extrude-checks-requires
-arc-extrude-checks-requires c κs = search needs
-
 returns : tie.Need-returns
 unfolding checks
 returns c = λ few ps es ks. rw (c .enum-told .given .1)
@@ -149,35 +62,35 @@ pub checks-of-spec : {M : Type 1} → statement M
 checks-of-spec =
     tie.close
     (tie.spec
-    enum-told
-    enum-told-2
-    from-keys-requires
-    by-keys-requires
-    insert-checks-requires
-    enum-known-edit
-    find-key3-requires
-    known-requires
-    enum-known-edit-2
-    find-key2-requires
-    find-key2-requires-2
-    find-key3-requires-2
-    split-checks-requires
-    enum-known-edit-3
-    find-key3-requires-3
-    known-requires-2
-    enum-known-edit-4
-    find-key3-requires-4
-    find-key3-requires-5
-    bridge-checks-requires
-    enum-known-edit-5
-    find-key3-requires-6
-    known-requires-3
-    enum-known-edit-6
-    four-by-keys-requires
-    arc-bridge-checks-requires
-    enum-known-edit-7
-    arc-by-keys-requires
-    arc-extrude-checks-requires
+    (λ c. search needs)
+    (λ c. search needs)
+    (λ c κs. search needs)
+    (λ c κs. search needs)
+    (λ c κs. search needs)
+    (λ c. search needs)
+    (λ c κs. search needs)
+    (λ c κs. search needs)
+    (λ c. search needs)
+    (λ c κs. search needs)
+    (λ c κs. search needs)
+    (λ c κs. search needs)
+    (λ c κs. search needs)
+    (λ c. search needs)
+    (λ c κs. search needs)
+    (λ c κs. search needs)
+    (λ c. search needs)
+    (λ c κs. search needs)
+    (λ c κs. search needs)
+    (λ c κs. search needs)
+    (λ c. search needs)
+    (λ c κs. search needs)
+    (λ c κs. search needs)
+    (λ c. search needs)
+    (λ c κs. search needs)
+    (λ c κs. search needs)
+    (λ c. search needs)
+    (λ c κs. search needs)
+    (λ c κs. search needs)
     returns
     returns-2
     returns-3

@@ -5,45 +5,6 @@ use Rattle.checks.proofs.call.given.Tie as tie
 use Prim.Native.Nat.{_-_}
 use Rattle.rules.specs.Call.{given}
 
-enum-known-edit : tie.Need-enum-known-edit
-enum-known-edit c = search needs
-
-finite-position-requires : tie.Need-finite-position-requires
-finite-position-requires c κs = search needs
-
-enum-told : tie.Need-enum-told
-enum-told c = search needs
-
-enum-told-2 : tie.Need-enum-told-2
-enum-told-2 c = search needs
-
-enum-told-3 : tie.Need-enum-told-3
-enum-told-3 c = search needs
-
-enum-known-edit-2 : tie.Need-enum-known-edit-2
-enum-known-edit-2 c = search needs
-
-finite-position-requires-2 : tie.Need-finite-position-requires-2
-finite-position-requires-2 c κs = search needs
-
-enum-told-4 : tie.Need-enum-told-4
-enum-told-4 c = search needs
-
-enum-known-edit-3 : tie.Need-enum-known-edit-3
-enum-known-edit-3 c = search needs
-
-finite-move-requires : tie.Need-finite-move-requires
-finite-move-requires c κs = search needs
-
-enum-told-5 : tie.Need-enum-told-5
-enum-told-5 c = search needs
-
-enum-known-edit-4 : tie.Need-enum-known-edit-4
-enum-known-edit-4 c = search needs
-
-finite-move-requires-2 : tie.Need-finite-move-requires-2
-finite-move-requires-2 c κs = search needs
-
 returns : tie.Need-returns
 unfolding given
 returns c = rw (c .before .before .edit .given .1) (c .finite-position .ensures)
@@ -84,19 +45,19 @@ pub given-spec : {M : Type 1} → statement M
 given-spec =
     tie.close
     (tie.spec
-    enum-known-edit
-    finite-position-requires
-    enum-told
-    enum-told-2
-    enum-told-3
-    enum-known-edit-2
-    finite-position-requires-2
-    enum-told-4
-    enum-known-edit-3
-    finite-move-requires
-    enum-told-5
-    enum-known-edit-4
-    finite-move-requires-2
+    (λ c. search needs)
+    (λ c κs. search needs)
+    (λ c. search needs)
+    (λ c. search needs)
+    (λ c. search needs)
+    (λ c. search needs)
+    (λ c κs. search needs)
+    (λ c. search needs)
+    (λ c. search needs)
+    (λ c κs. search needs)
+    (λ c. search needs)
+    (λ c. search needs)
+    (λ c κs. search needs)
     returns
     returns-2
     returns-3

@@ -5,15 +5,9 @@ use Rattle.checks.proofs.call.insert_need.Tie as tie
 use Prim.Native.Nat.{_-_}
 use Rattle.rules.specs.Call.{insertNeed}
 
-pairs-without-requires : tie.Need-pairs-without-requires
-pairs-without-requires c κs = search needs
-
-needs-requires : tie.Need-needs-requires
-needs-requires c κs = search needs
-
 returns : tie.Need-returns
 unfolding insertNeed
 returns c = λ vs ps es fs ks. rw (← c .before .pairs-without .ensures vs ps es fs ks) (c .needs .ensures)
 
 pub insert-need-spec : {M : Type 1} → statement M
-insert-need-spec = tie.close (tie.spec pairs-without-requires needs-requires returns)
+insert-need-spec = tie.close (tie.spec (λ c κs. search needs) (λ c κs. search needs) returns)

@@ -7,31 +7,13 @@ use mathlib.Core.Path.{sym, _∙_}
 use borrow.Author.Tests.{not-true, not-false}
 use Rattle.rules.specs.Call.{keysFor}
 
-element-copy-out-keys-left : tie.Need-element-copy-out-keys-left
-element-copy-out-keys-left c = search needs
-
-keys-left-requires : tie.Need-keys-left-requires
-keys-left-requires c κs = search needs
-
 returns : tie.Need-returns
 unfolding keysFor
 returns c = λ vs ps ar es fs. rw (sym (c .before .keys-left .ensures) ∙ not-true _ (c .if1 .taken))
 
-element-copy-out-keys-left-2 : tie.Need-element-copy-out-keys-left-2
-element-copy-out-keys-left-2 c = search needs
-
-keys-left-requires-2 : tie.Need-keys-left-requires-2
-keys-left-requires-2 c κs = search needs
-
 returns-2 : tie.Need-returns-2
 unfolding keysFor
 returns-2 c = λ vs ps ar es fs. rw (sym (c .before .before .before .before .keys-left .ensures) ∙ not-false _ (c .before .before .before .if1 .left), sym (c .before .keys-left2 .ensures) ∙ not-true _ (c .if2 .taken))
-
-element-copy-out-keys-left-3 : tie.Need-element-copy-out-keys-left-3
-element-copy-out-keys-left-3 c = search needs
-
-keys-left-requires-3 : tie.Need-keys-left-requires-3
-keys-left-requires-3 c κs = search needs
 
 returns-3 : tie.Need-returns-3
 unfolding keysFor
@@ -41,12 +23,12 @@ pub keys-for-spec : {M : Type 1} → statement M
 keys-for-spec =
     tie.close
     (tie.spec
-    element-copy-out-keys-left
-    keys-left-requires
+    (λ c. search needs)
+    (λ c κs. search needs)
     returns
-    element-copy-out-keys-left-2
-    keys-left-requires-2
+    (λ c. search needs)
+    (λ c κs. search needs)
     returns-2
-    element-copy-out-keys-left-3
-    keys-left-requires-3
+    (λ c. search needs)
+    (λ c κs. search needs)
     returns-3)

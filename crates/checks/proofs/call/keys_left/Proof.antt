@@ -12,14 +12,8 @@ returns c =
     let a = c .before .args in
     sym (lt-leb (a .next + a .many) 4294967295 (omega arith))
 
-wide-requires : tie.Need-wide-requires
-wide-requires c κs = search needs
-
-add-result : tie.Need-add-result
-add-result c = search needs
-
 returns-2 : tie.Need-returns-2
 returns-2 c = rw (c .wide .ensures)
 
 pub keys-left-spec : {M : Type 1} → statement M
-keys-left-spec = tie.close (tie.spec returns wide-requires add-result returns-2)
+keys-left-spec = tie.close (tie.spec returns (λ c κs. search needs) (λ c. search needs) returns-2)

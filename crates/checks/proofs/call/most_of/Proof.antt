@@ -11,69 +11,6 @@ use Rattle.checks.specs.Most.{most}
 use Rattle.checks.proofs.Bounds.{ring-few}
 use Rattle.checks.proofs.Most.{most-told}
 
-enum-told : tie.Need-enum-told
-enum-told c = search needs
-
-needs-requires : tie.Need-needs-requires
-needs-requires c κs = search needs
-
-enum-told-2 : tie.Need-enum-told-2
-enum-told-2 c = search needs
-
-needs-requires-2 : tie.Need-needs-requires-2
-needs-requires-2 c κs = search needs
-
-enum-told-3 : tie.Need-enum-told-3
-enum-told-3 c = search needs
-
-needs-requires-3 : tie.Need-needs-requires-3
-needs-requires-3 c κs = search needs
-
-enum-told-4 : tie.Need-enum-told-4
-enum-told-4 c = search needs
-
-needs-requires-4 : tie.Need-needs-requires-4
-needs-requires-4 c κs = search needs
-
-enum-known-edit : tie.Need-enum-known-edit
-enum-known-edit c = search needs
-
-find-key3-requires : tie.Need-find-key3-requires
-find-key3-requires c κs = search needs
-
-arity-of-requires : tie.Need-arity-of-requires
-arity-of-requires c κs = search needs
-
-left-of-requires : tie.Need-left-of-requires
-left-of-requires c κs = search needs
-
-needs-requires-5 : tie.Need-needs-requires-5
-needs-requires-5 c κs = search needs
-
-enum-known-edit-2 : tie.Need-enum-known-edit-2
-enum-known-edit-2 c = search needs
-
-find-key3-requires-2 : tie.Need-find-key3-requires-2
-find-key3-requires-2 c κs = search needs
-
-arity-of-requires-2 : tie.Need-arity-of-requires-2
-arity-of-requires-2 c κs = search needs
-
-left-of-requires-2 : tie.Need-left-of-requires-2
-left-of-requires-2 c κs = search needs
-
-needs-requires-6 : tie.Need-needs-requires-6
-needs-requires-6 c κs = search needs
-
-enum-known-edit-3 : tie.Need-enum-known-edit-3
-enum-known-edit-3 c = search needs
-
-find-key3-requires-3 : tie.Need-find-key3-requires-3
-find-key3-requires-3 c κs = search needs
-
-arity-of-requires-3 : tie.Need-arity-of-requires-3
-arity-of-requires-3 c κs = search needs
-
 mul-needs : tie.Need-mul-needs
 mul-needs c =
     let a = c .before .before .before .before .before .before .args in
@@ -83,21 +20,6 @@ add-needs : tie.Need-add-needs
 add-needs c =
     let a = c .before .before .before .before .before .before .args in
     omega (arith, c .arity-of3 .ensures [] [] [] [], ring-few (mesh [] [] (a .arcs .now) [] (a .faces .now) []) (c .before .find-key33 .result))
-
-needs-requires-7 : tie.Need-needs-requires-7
-needs-requires-7 c κs = search needs
-
-enum-told-5 : tie.Need-enum-told-5
-enum-told-5 c = search needs
-
-needs-requires-8 : tie.Need-needs-requires-8
-needs-requires-8 c κs = search needs
-
-enum-told-6 : tie.Need-enum-told-6
-enum-told-6 c = search needs
-
-needs-requires-9 : tie.Need-needs-requires-9
-needs-requires-9 c κs = search needs
 
 returns : tie.Need-returns
 unfolding most need
@@ -157,34 +79,34 @@ pub most-of-spec : {M : Type 1} → statement M
 most-of-spec =
     tie.close
     (tie.spec
-    enum-told
-    needs-requires
-    enum-told-2
-    needs-requires-2
-    enum-told-3
-    needs-requires-3
-    enum-told-4
-    needs-requires-4
-    enum-known-edit
-    find-key3-requires
-    arity-of-requires
-    left-of-requires
-    needs-requires-5
-    enum-known-edit-2
-    find-key3-requires-2
-    arity-of-requires-2
-    left-of-requires-2
-    needs-requires-6
-    enum-known-edit-3
-    find-key3-requires-3
-    arity-of-requires-3
+    (λ c. search needs)
+    (λ c κs. search needs)
+    (λ c. search needs)
+    (λ c κs. search needs)
+    (λ c. search needs)
+    (λ c κs. search needs)
+    (λ c. search needs)
+    (λ c κs. search needs)
+    (λ c. search needs)
+    (λ c κs. search needs)
+    (λ c κs. search needs)
+    (λ c κs. search needs)
+    (λ c κs. search needs)
+    (λ c. search needs)
+    (λ c κs. search needs)
+    (λ c κs. search needs)
+    (λ c κs. search needs)
+    (λ c κs. search needs)
+    (λ c. search needs)
+    (λ c κs. search needs)
+    (λ c κs. search needs)
     mul-needs
     add-needs
-    needs-requires-7
-    enum-told-5
-    needs-requires-8
-    enum-told-6
-    needs-requires-9
+    (λ c κs. search needs)
+    (λ c. search needs)
+    (λ c κs. search needs)
+    (λ c. search needs)
+    (λ c κs. search needs)
     returns
     returns-2
     returns-3

@@ -13,59 +13,11 @@ use Rattle.rules.specs.Call.{movesFinite}
 use Rattle.checks.proofs.Bounds.{vertices-back}
 use Rattle.checks.proofs.Below.{and-true}
 
-enum-told : tie.Need-enum-told
-enum-told c = search needs
-
-enum-told-2 : tie.Need-enum-told-2
-enum-told-2 c = search needs
-
-enum-told-3 : tie.Need-enum-told-3
-enum-told-3 c = search needs
-
-enum-told-4 : tie.Need-enum-told-4
-enum-told-4 c = search needs
-
-enum-told-5 : tie.Need-enum-told-5
-enum-told-5 c = search needs
-
-enum-told-6 : tie.Need-enum-told-6
-enum-told-6 c = search needs
-
-enum-known-edit : tie.Need-enum-known-edit
-enum-known-edit c = search needs
-
-find-key3-requires : tie.Need-find-key3-requires
-find-key3-requires c κs = search needs
-
-vertices-of-requires : tie.Need-vertices-of-requires
-vertices-of-requires c κs = search needs
-
-moved-finite-requires : tie.Need-moved-finite-requires
-moved-finite-requires c κs = search needs
-
-enum-told-7 : tie.Need-enum-told-7
-enum-told-7 c = search needs
-
-enum-known-edit-2 : tie.Need-enum-known-edit-2
-enum-known-edit-2 c = search needs
-
-find-key2-requires : tie.Need-find-key2-requires
-find-key2-requires c κs = search needs
-
-one-finite-requires : tie.Need-one-finite-requires
-one-finite-requires c κs = search needs
-
 returns : tie.Need-returns
 unfolding movesFinite movedFinite every
 returns c =
     let a = c .before .before .before .before .before .before .args in
     λ es ks. rw (c .before .before .before .before .edit2 .given .1, ← c .before .before .find-key2 .ensures, sym (c .before .one-finite .ensures (a .vertices .now) (a .arcs .now) es (a .faces .now) ks) ∙ not-true _ (c .if1 .taken))
-
-find-key2-requires-2 : tie.Need-find-key2-requires-2
-find-key2-requires-2 c κs = search needs
-
-one-finite-requires-2 : tie.Need-one-finite-requires-2
-one-finite-requires-2 c κs = search needs
 
 returns-2 : tie.Need-returns-2
 unfolding movesFinite
@@ -113,23 +65,23 @@ pub moves-finite-spec : {M : Type 1} → statement M
 moves-finite-spec =
     tie.close
     (tie.spec
-    enum-told
-    enum-told-2
-    enum-told-3
-    enum-told-4
-    enum-told-5
-    enum-told-6
-    enum-known-edit
-    find-key3-requires
-    vertices-of-requires
-    moved-finite-requires
-    enum-told-7
-    enum-known-edit-2
-    find-key2-requires
-    one-finite-requires
+    (λ c. search needs)
+    (λ c. search needs)
+    (λ c. search needs)
+    (λ c. search needs)
+    (λ c. search needs)
+    (λ c. search needs)
+    (λ c. search needs)
+    (λ c κs. search needs)
+    (λ c κs. search needs)
+    (λ c κs. search needs)
+    (λ c. search needs)
+    (λ c. search needs)
+    (λ c κs. search needs)
+    (λ c κs. search needs)
     returns
-    find-key2-requires-2
-    one-finite-requires-2
+    (λ c κs. search needs)
+    (λ c κs. search needs)
     returns-2
     returns-3
     returns-4

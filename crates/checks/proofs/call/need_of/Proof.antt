@@ -9,42 +9,6 @@ use Rattle.rules.specs.Call.{need}
 use Rattle.checks.proofs.Between.{corners-key}
 use Rattle.checks.proofs.Most.{none-asked}
 
-enum-told : tie.Need-enum-told
-enum-told c = search needs
-
-by-keys-requires : tie.Need-by-keys-requires
-by-keys-requires c κs = search needs
-
-insert-need-requires : tie.Need-insert-need-requires
-insert-need-requires c κs = search needs
-
-enum-known-edit : tie.Need-enum-known-edit
-enum-known-edit c = search needs
-
-arc-by-keys-requires : tie.Need-arc-by-keys-requires
-arc-by-keys-requires c κs = search needs
-
-one-if-none-requires : tie.Need-one-if-none-requires
-one-if-none-requires c κs = search needs
-
-needs-requires : tie.Need-needs-requires
-needs-requires c κs = search needs
-
-enum-known-edit-2 : tie.Need-enum-known-edit-2
-enum-known-edit-2 c = search needs
-
-four-by-keys-requires : tie.Need-four-by-keys-requires
-four-by-keys-requires c κs = search needs
-
-corners-between-requires : tie.Need-corners-between-requires
-corners-between-requires c κs = search needs
-
-insert-need-requires-2 : tie.Need-insert-need-requires-2
-insert-need-requires-2 c κs = search needs
-
-most-of-requires : tie.Need-most-of-requires
-most-of-requires c κs = search needs
-
 returns : tie.Need-returns
 unfolding need
 returns c =
@@ -71,18 +35,18 @@ pub need-of-spec : {M : Type 1} → statement M
 need-of-spec =
     tie.close
     (tie.spec
-    enum-told
-    by-keys-requires
-    insert-need-requires
-    enum-known-edit
-    arc-by-keys-requires
-    one-if-none-requires
-    needs-requires
-    enum-known-edit-2
-    four-by-keys-requires
-    corners-between-requires
-    insert-need-requires-2
-    most-of-requires
+    (λ c. search needs)
+    (λ c κs. search needs)
+    (λ c κs. search needs)
+    (λ c. search needs)
+    (λ c κs. search needs)
+    (λ c κs. search needs)
+    (λ c κs. search needs)
+    (λ c. search needs)
+    (λ c κs. search needs)
+    (λ c κs. search needs)
+    (λ c κs. search needs)
+    (λ c κs. search needs)
     returns
     returns-2
     returns-3

@@ -7,15 +7,9 @@ use mathlib.Core.Path.{sym, _∙_}
 use borrow.Author.Tests.{not-true, not-false}
 use Rattle.rules.specs.Call.{roomFor}
 
-rows-for-requires : tie.Need-rows-for-requires
-rows-for-requires c κs = search needs
-
 returns : tie.Need-returns
 unfolding roomFor
 returns c = λ ps ar. rw (sym (c .before .rows-for .ensures ps ar (c .before .before .args .counters .now)) ∙ not-true _ (c .if1 .taken))
-
-keys-for-requires : tie.Need-keys-for-requires
-keys-for-requires c κs = search needs
 
 returns-2 : tie.Need-returns-2
 unfolding roomFor
@@ -24,4 +18,4 @@ returns-2 c =
     λ ps ar. rw (sym (c .before .before .rows-for .ensures ps ar (a .counters .now)) ∙ not-false _ (c .before .if1 .left)) (c .keys-for .ensures (a .vertices .now) ps ar (a .edges .now) (a .faces .now))
 
 pub room-for-spec : {M : Type 1} → statement M
-room-for-spec = tie.close (tie.spec rows-for-requires returns keys-for-requires returns-2)
+room-for-spec = tie.close (tie.spec (λ c κs. search needs) returns (λ c κs. search needs) returns-2)

@@ -10,9 +10,6 @@ returns : tie.Need-returns
 unfolding arcExtrudeChecks
 returns c = λ vs ps es fs ks. rw (eq-eqb _ _ (c .if1 .taken))
 
-cell6-requires : tie.Need-cell6-requires
-cell6-requires c κs = search needs
-
 returns-2 : tie.Need-returns-2
 unfolding arcExtrudeChecks
 returns-2 c = λ vs ps es fs ks. rw (ne-eqb _ _ (c .before .before .if1 .left), ← c .before .cell6 .ensures, ne-eqb _ _ (c .if2 .taken))
@@ -22,4 +19,4 @@ unfolding arcExtrudeChecks
 returns-3 c = λ vs ps es fs ks. rw (ne-eqb _ _ (c .before .before .if1 .left), ← c .before .cell6 .ensures, eq-eqb _ _ (c .if2 .left))
 
 pub arc-extrude-checks-spec : {M : Type 1} → statement M
-arc-extrude-checks-spec = tie.close (tie.spec returns cell6-requires returns-2 returns-3)
+arc-extrude-checks-spec = tie.close (tie.spec returns (λ c κs. search needs) returns-2 returns-3)

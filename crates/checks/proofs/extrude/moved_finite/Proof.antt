@@ -22,17 +22,8 @@ Inv-loop positions mv list n i₀ i = (i ≤ n) × ((j : ℕ) → j < i → (vs 
 abbrev μ-loop : tie.MeasureT-loop
 μ-loop positions mv list n i₀ i = n - i
 
-size-requires : tie.Need-size-requires Inv-loop μ-loop
-size-requires c κs = search needs
-
 loop-holds : tie.Need-loop-holds Inv-loop μ-loop
 loop-holds c = (search needs, below-none _)
-
-item-requires : tie.Need-item-requires Inv-loop μ-loop
-item-requires c κs = search needs
-
-one-finite-requires : tie.Need-one-finite-requires Inv-loop μ-loop
-one-finite-requires c κs = search needs
 
 returns : tie.Need-returns Inv-loop μ-loop
 unfolding movedFinite
@@ -40,12 +31,6 @@ returns c =
     let a = c .before .before .before .before .before .before .args in
     let l = c .before .before .before .before in
     λ vs ar es fs ks. sym (one-fails (λ v. finitePosition (movedPosition (mesh vs (a .positions .now) ar es fs ks) (a .mv) v)) (listOf (a .list)) 0 (l .loop .i) (omega (arith, c .before .before .before .before .before .size .ensures)) (rw (c .before .before .item .ensures) at (sym (c .before .one-finite .ensures vs ar es fs ks) ∙ not-true _ (c .if1 .taken))))
-
-add-i : tie.Need-add-i Inv-loop μ-loop
-add-i c = search needs
-
-loop-less : tie.Need-loop-less Inv-loop μ-loop
-loop-less c = search needs
 
 loop-again : tie.Need-loop-again Inv-loop μ-loop
 loop-again c =
@@ -66,12 +51,12 @@ moved-finite-spec =
     (tie.spec
     Inv-loop
     μ-loop
-    size-requires
+    (λ c κs. search needs)
     loop-holds
-    item-requires
-    one-finite-requires
+    (λ c κs. search needs)
+    (λ c κs. search needs)
     returns
-    add-i
-    loop-less
+    (λ c. search needs)
+    (λ c. search needs)
     loop-again
     returns-2)

@@ -23,24 +23,9 @@ Inv-loop arcs n found at i₀ i = (i ≤ n) × ((vs : Table) (ps : List (List Fl
 abbrev μ-loop : tie.MeasureT-loop
 μ-loop arcs n found at i₀ i = n - i
 
-size-requires : tie.Need-size-requires Inv-loop μ-loop
-size-requires c κs = search needs
-
-known-few-requires : tie.Need-known-few-requires Inv-loop μ-loop
-known-few-requires c κs = search needs
-
 loop-holds : tie.Need-loop-holds Inv-loop μ-loop
 unfolding someBelow
 loop-holds c = (search needs, λ vs ps es fs ks. refl)
-
-mul-x : tie.Need-mul-x Inv-loop μ-loop
-mul-x c = search needs
-
-array-read-x : tie.Need-array-read-x Inv-loop μ-loop
-array-read-x c = search needs
-
-faced-requires : tie.Need-faced-requires Inv-loop μ-loop
-faced-requires c κs = search needs
 
 -- at the loop: the perimeter as far as it goes, how many it has, and its arcs
 whole : (l : tie.At-loop Inv-loop μ-loop) → let n = l .before .before .before .before .size in let a = l .before .before .before .before .before .args in take (n .result) (a .per .at) ≡ listOf (a .per)
@@ -86,9 +71,6 @@ returns c =
     let m = mesh vs ps (a .arcs .now) es fs ks in
     sym (ap (conflict m) (sym (whole l)) ∙ some-here (clash m (take (n .result) (a .per .at))) (length (take (n .result) (a .per .at))) (l .loop .i) (omega (arith, many l)) (rw (sym (face-at (c .before) vs ps es fs ks) ∙ c .if1 .taken)))
 
-place-after-requires : tie.Need-place-after-requires Inv-loop μ-loop
-place-after-requires c κs = search needs
-
 mul-w : tie.Need-mul-w Inv-loop μ-loop
 mul-w c =
     let l = c .before .before .before .before in
@@ -101,9 +83,6 @@ array-read-w c =
     let n = l .before .before .before .before .size in
     omega (arith, n .ensures, l .before .before .before .known-few .ensures, next-on (n .result) (l .loop .i) (c .place-after .result) (c .before .before .before .loop-test .taken) (c .place-after .ensures))
 
-leads-back-requires : tie.Need-leads-back-requires Inv-loop μ-loop
-leads-back-requires c κs = search needs
-
 returns-2 : tie.Need-returns-2 Inv-loop μ-loop
 unfolding conflict
 returns-2 c =
@@ -113,12 +92,6 @@ returns-2 c =
     λ vs ps es fs ks.
     let m = mesh vs ps (a .arcs .now) es fs ks in
     sym (ap (conflict m) (sym (whole l)) ∙ some-here (clash m (take (n .result) (a .per .at))) (length (take (n .result) (a .per .at))) (l .loop .i) (omega (arith, many l)) (rw (sym (face-at (c .before .before .before .before .before) vs ps es fs ks) ∙ c .before .before .before .before .if1 .left, sym (back-at (c .before) vs ps es fs ks) ∙ c .if2 .taken)))
-
-add-i : tie.Need-add-i Inv-loop μ-loop
-add-i c = search needs
-
-loop-less : tie.Need-loop-less Inv-loop μ-loop
-loop-less c = search needs
 
 loop-again : tie.Need-loop-again Inv-loop μ-loop
 loop-again c =
@@ -144,19 +117,19 @@ conflict-by-spec =
     (tie.spec
     Inv-loop
     μ-loop
-    size-requires
-    known-few-requires
+    (λ c κs. search needs)
+    (λ c κs. search needs)
     loop-holds
-    mul-x
-    array-read-x
-    faced-requires
+    (λ c. search needs)
+    (λ c. search needs)
+    (λ c κs. search needs)
     returns
-    place-after-requires
+    (λ c κs. search needs)
     mul-w
     array-read-w
-    leads-back-requires
+    (λ c κs. search needs)
     returns-2
-    add-i
-    loop-less
+    (λ c. search needs)
+    (λ c. search needs)
     loop-again
     returns-3)

@@ -8,11 +8,8 @@ use borrow.Author.Tests.{eq-eqb, ne-eqb}
 returns : tie.Need-returns
 returns c = rw (eq-eqb _ _ (c .if1 .taken))
 
-cell6-requires : tie.Need-cell6-requires
-cell6-requires c κs = search needs
-
 returns-2 : tie.Need-returns-2
 returns-2 c = rw (ne-eqb _ _ (c .before .if1 .left), c .cell6 .ensures)
 
 pub faced-spec : {M : Type 1} → statement M
-faced-spec = tie.close (tie.spec returns cell6-requires returns-2)
+faced-spec = tie.close (tie.spec returns (λ c κs. search needs) returns-2)

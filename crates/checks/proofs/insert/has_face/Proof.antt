@@ -6,12 +6,6 @@ use Prim.Native.Nat.{_-_}
 use Rattle.rules.specs.Mesh.{mesh}
 use Rattle.checks.proofs.Pairs.{arc-listed, face-of-arc}
 
-item-requires : tie.Need-item-requires
-item-requires c κs = search needs
-
-faced-requires : tie.Need-faced-requires
-faced-requires c κs = search needs
-
 returns : tie.Need-returns
 returns c =
     let a = c .before .before .args in
@@ -20,4 +14,4 @@ returns c =
     face-of-arc (mesh vs ps (a .arcs .now) es fs ks) per (a .i) (c .before .item .result) (c .faced .result) pair (c .faced .ensures)
 
 pub has-face-spec : {M : Type 1} → statement M
-has-face-spec = tie.close (tie.spec item-requires faced-requires returns)
+has-face-spec = tie.close (tie.spec (λ c κs. search needs) (λ c κs. search needs) returns)

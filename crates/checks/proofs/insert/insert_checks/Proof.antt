@@ -9,24 +9,12 @@ use Rattle.rules.specs.Mesh.{mesh, listOf}
 use Rattle.checks.proofs.Named.{named-refused, named-passed}
 use Rattle.pairs.proofs.Listed.{arcs-held}
 
-named-requires : tie.Need-named-requires
-named-requires c κs = search needs
-
-accepted-requires : tie.Need-accepted-requires
-accepted-requires c κs = search needs
-
 returns : tie.Need-returns
 returns c =
     λ vs ps es fs ks.
     let a = c .before .before .before .args in
     let w = c .before .before .named in
     named-refused (mesh vs ps (a .arcs .now) es fs ks) (listOf (a .names)) (listOf (a .per)) (w .result) (w .ensures) (sym (c .before .accepted .ensures) ∙ not-true _ (c .if1 .taken))
-
-known-few-requires : tie.Need-known-few-requires
-known-few-requires c κs = search needs
-
-perimeter-arcs-requires : tie.Need-perimeter-arcs-requires
-perimeter-arcs-requires c κs = search needs
 
 conflict-by-requires : tie.Need-conflict-by-requires
 conflict-by-requires c κs = let a = c .before .before .before .before .before .args in arcs-held (a .arcs .now) (listOf (a .per)) (c .perimeter-arcs .result) (c .before .known-few .ensures) (c .perimeter-arcs .ensures)
@@ -49,11 +37,11 @@ pub insert-checks-spec : {M : Type 1} → statement M
 insert-checks-spec =
     tie.close
     (tie.spec
-    named-requires
-    accepted-requires
+    (λ c κs. search needs)
+    (λ c κs. search needs)
     returns
-    known-few-requires
-    perimeter-arcs-requires
+    (λ c κs. search needs)
+    (λ c κs. search needs)
     conflict-by-requires
     returns-2
     returns-3)

@@ -8,12 +8,6 @@ use mathlib.Core.Bool.{true, false}
 use Rattle.rules.specs.Mesh.{mesh, listOf}
 use Rattle.checks.proofs.Named.{named-refused, named-passed}
 
-named-requires : tie.Need-named-requires
-named-requires c κs = search needs
-
-accepted-requires : tie.Need-accepted-requires
-accepted-requires c κs = search needs
-
 returns : tie.Need-returns
 returns c =
     λ vs ps es fs ks.
@@ -42,8 +36,8 @@ pub insert-checks-by-spec : {M : Type 1} → statement M
 insert-checks-by-spec =
     tie.close
     (tie.spec
-    named-requires
-    accepted-requires
+    (λ c κs. search needs)
+    (λ c κs. search needs)
     returns
     conflict-by-requires
     returns-2

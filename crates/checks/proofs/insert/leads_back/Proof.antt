@@ -10,17 +10,8 @@ returns c = rw (eq-eqb _ _ (c .if1 .taken))
 returns-2 : tie.Need-returns-2
 returns-2 c = rw (ne-eqb _ _ (c .before .if1 .left), ne-eqb _ _ (c .if2 .taken))
 
-cell6-requires : tie.Need-cell6-requires
-cell6-requires c κs = search needs
-
 returns-3 : tie.Need-returns-3
 returns-3 c = rw (ne-eqb _ _ (c .before .before .before .if1 .left), eq-eqb _ _ (c .before .before .if2 .left), ← c .before .cell6 .ensures, eq-eqb _ _ (c .if3 .taken))
-
-cell6-requires-2 : tie.Need-cell6-requires-2
-cell6-requires-2 c κs = search needs
-
-stands-from-requires : tie.Need-stands-from-requires
-stands-from-requires c κs = search needs
 
 returns-4 : tie.Need-returns-4
 returns-4 c =
@@ -34,8 +25,8 @@ leads-back-spec =
     (tie.spec
     returns
     returns-2
-    cell6-requires
+    (λ c κs. search needs)
     returns-3
-    cell6-requires-2
-    stands-from-requires
+    (λ c κs. search needs)
+    (λ c κs. search needs)
     returns-4)

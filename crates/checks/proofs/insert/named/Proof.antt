@@ -4,12 +4,6 @@ use Rattle.checks.proofs.insert.named.Statement.{statement}
 use Rattle.checks.proofs.insert.named.Tie as tie
 use mathlib.Core.Path.{sym, _∙_}
 
-is-malformed-requires : tie.Need-is-malformed-requires
-is-malformed-requires c κs = search needs
-
-has-from-requires : tie.Need-has-from-requires
-has-from-requires c κs = search needs
-
 returns : tie.Need-returns
 returns c = rw (sym (c .before .before .is-malformed .ensures) ∙ c .if1 .taken)
 
@@ -22,4 +16,4 @@ returns-3 c = rw (sym (c .before .before .before .is-malformed .ensures) ∙ c .
 pub named-spec : {M : Type 1} → statement M
 named-spec =
     tie.close
-    (tie.spec is-malformed-requires has-from-requires returns returns-2 returns-3)
+    (tie.spec (λ c κs. search needs) (λ c κs. search needs) returns returns-2 returns-3)

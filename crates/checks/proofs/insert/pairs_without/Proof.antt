@@ -22,35 +22,14 @@ Inv-loop arcs n xs sum₀ i₀ sum i = (sum ≤ i) × ((i ≤ n) × ((vs : Table
 abbrev μ-loop : tie.MeasureT-loop
 μ-loop arcs n xs sum₀ i₀ sum i = n - i
 
-size-requires : tie.Need-size-requires Inv-loop μ-loop
-size-requires c κs = search needs
-
-known-few-requires : tie.Need-known-few-requires Inv-loop μ-loop
-known-few-requires c κs = search needs
-
-perimeter-arcs-requires : tie.Need-perimeter-arcs-requires Inv-loop μ-loop
-perimeter-arcs-requires c κs = search needs
-
 loop-holds : tie.Need-loop-holds Inv-loop μ-loop
 unfolding sumBelow
 loop-holds c = (search needs, (search needs, λ vs ps es fs ks per e. refl))
-
-item-requires : tie.Need-item-requires Inv-loop μ-loop
-item-requires c κs = search needs
-
-one-if-none-requires : tie.Need-one-if-none-requires Inv-loop μ-loop
-one-if-none-requires c κs = search needs
 
 add-sum : tie.Need-add-sum Inv-loop μ-loop
 add-sum c =
     let few : c .one-if-none .result ≤ 1 = one-or-none (c .one-if-none .result) (c .before .item .result) (c .one-if-none .ensures) in
     omega arith
-
-add-i : tie.Need-add-i Inv-loop μ-loop
-add-i c = search needs
-
-loop-less : tie.Need-loop-less Inv-loop μ-loop
-loop-less c = search needs
 
 loop-again : tie.Need-loop-again Inv-loop μ-loop
 loop-again c =
@@ -82,14 +61,14 @@ pairs-without-spec =
     (tie.spec
     Inv-loop
     μ-loop
-    size-requires
-    known-few-requires
-    perimeter-arcs-requires
+    (λ c κs. search needs)
+    (λ c κs. search needs)
+    (λ c κs. search needs)
     loop-holds
-    item-requires
-    one-if-none-requires
+    (λ c κs. search needs)
+    (λ c κs. search needs)
     add-sum
-    add-i
-    loop-less
+    (λ c. search needs)
+    (λ c. search needs)
     loop-again
     returns)

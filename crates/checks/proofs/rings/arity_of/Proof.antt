@@ -7,16 +7,10 @@ use mathlib.Core.Path.{_∙_}
 use Rattle.rules.specs.Mesh.{mesh}
 use Rattle.checks.proofs.Bounds.{ring-back}
 
-ring-of-requires : tie.Need-ring-of-requires
-ring-of-requires c κs = search needs
-
-size-requires : tie.Need-size-requires
-size-requires c κs = search needs
-
 returns : tie.Need-returns
 returns c =
     let a = c .before .before .args in
     λ vs ps es ks. c .size .ensures ∙ rw (c .before .ring-of .ensures vs ps es ks, ring-back (mesh vs ps (a .arcs .now) es (a .faces .now) ks) (a .f))
 
 pub arity-of-spec : {M : Type 1} → statement M
-arity-of-spec = tie.close (tie.spec ring-of-requires size-requires returns)
+arity-of-spec = tie.close (tie.spec (λ c κs. search needs) (λ c κs. search needs) returns)

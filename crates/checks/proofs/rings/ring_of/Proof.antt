@@ -7,15 +7,9 @@ use mathlib.Core.Path.{ap, _∙_}
 use Rattle.rules.specs.declared.Walk.{Walk}
 use Rattle.rules.specs.Link.{ring, walkOf}
 
-cell3-requires : tie.Need-cell3-requires
-cell3-requires c κs = search needs
-
-ring-requires : tie.Need-ring-requires
-ring-requires c κs = search needs
-
 returns : tie.Need-returns
 unfolding ring walkOf
 returns c = λ vs ps es ks. ap (λ (x : Walk). x .links) (c .before .ring .ensures) ∙ rw (c .before .before .cell3 .ensures)
 
 pub ring-of-spec : {M : Type 1} → statement M
-ring-of-spec = tie.close (tie.spec cell3-requires ring-requires returns)
+ring-of-spec = tie.close (tie.spec (λ c κs. search needs) (λ c κs. search needs) returns)

@@ -8,12 +8,6 @@ use Rattle.rules.specs.Mesh.{mesh}
 use Rattle.rules.specs.Link.{ringVertices}
 use Rattle.checks.proofs.Bounds.{ring-back}
 
-ring-of-requires : tie.Need-ring-of-requires
-ring-of-requires c κs = search needs
-
-ring-vertices-requires : tie.Need-ring-vertices-requires
-ring-vertices-requires c κs = search needs
-
 returns : tie.Need-returns
 unfolding ringVertices
 returns c =
@@ -21,4 +15,4 @@ returns c =
     λ vs ps es ks. c .ring-vertices .ensures ∙ rw (c .before .ring-of .ensures vs ps es ks, ring-back (mesh vs ps (a .arcs .now) es (a .faces .now) ks) (a .f))
 
 pub vertices-of-spec : {M : Type 1} → statement M
-vertices-of-spec = tie.close (tie.spec ring-of-requires ring-vertices-requires returns)
+vertices-of-spec = tie.close (tie.spec (λ c κs. search needs) (λ c κs. search needs) returns)

@@ -9,18 +9,6 @@ use Rattle.rules.specs.Link.{ringVertices}
 use Rattle.rules.specs.Edit.{half}
 use Rattle.checks.proofs.Bounds.{vertices-back}
 
-vertices-of-requires : tie.Need-vertices-of-requires
-vertices-of-requires c κs = search needs
-
-place-of-requires : tie.Need-place-of-requires
-place-of-requires c κs = search needs
-
-place-of-requires-2 : tie.Need-place-of-requires-2
-place-of-requires-2 c κs = search needs
-
-stretch-requires : tie.Need-stretch-requires
-stretch-requires c κs = search needs
-
 returns : tie.Need-returns
 unfolding half
 returns c =
@@ -32,4 +20,4 @@ returns c =
 pub half-spec : {M : Type 1} → statement M
 half-spec =
     tie.close
-    (tie.spec vertices-of-requires place-of-requires place-of-requires-2 stretch-requires returns)
+    (tie.spec (λ c κs. search needs) (λ c κs. search needs) (λ c κs. search needs) (λ c κs. search needs) returns)

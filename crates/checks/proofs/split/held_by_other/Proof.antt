@@ -23,21 +23,9 @@ Inv-loop arcs f n xs i₀ i = (i ≤ n) × ((vs : Table) (ps : List (List Float)
 abbrev μ-loop : tie.MeasureT-loop
 μ-loop arcs f n xs i₀ i = n - i
 
-size-requires : tie.Need-size-requires Inv-loop μ-loop
-size-requires c κs = search needs
-
-known-few-requires : tie.Need-known-few-requires Inv-loop μ-loop
-known-few-requires c κs = search needs
-
-perimeter-arcs-requires : tie.Need-perimeter-arcs-requires Inv-loop μ-loop
-perimeter-arcs-requires c κs = search needs
-
 loop-holds : tie.Need-loop-holds Inv-loop μ-loop
 unfolding someBelow
 loop-holds c = (search needs, λ vs ps es fs ks per e. refl)
-
-other-holds-requires : tie.Need-other-holds-requires Inv-loop μ-loop
-other-holds-requires c κs = search needs
 
 -- the list of arcs, at the loop
 held : (l : tie.At-loop Inv-loop μ-loop) → let a = l .before .before .before .before .args in listOf (l .before .perimeter-arcs .result) ≡ arcsOf (a .arcs .now) (listOf (a .per))
@@ -51,12 +39,6 @@ returns c =
     let l = c .before .before .before in
     let a = l .before .before .before .before .args in
     λ vs ps es fs ks. sym (some-here (taken (mesh vs ps (a .arcs .now) es fs ks) (a .f) (listOf (a .per))) (length (listOf (a .per))) (l .loop .i) (omega (arith, l .before .before .before .size .ensures)) (sym (c .before .other-holds .ensures vs ps es fs ks (listOf (a .per)) (held l)) ∙ c .if1 .taken))
-
-add-i : tie.Need-add-i Inv-loop μ-loop
-add-i c = search needs
-
-loop-less : tie.Need-loop-less Inv-loop μ-loop
-loop-less c = search needs
 
 loop-again : tie.Need-loop-again Inv-loop μ-loop
 loop-again c =
@@ -78,13 +60,13 @@ held-by-other-spec =
     (tie.spec
     Inv-loop
     μ-loop
-    size-requires
-    known-few-requires
-    perimeter-arcs-requires
+    (λ c κs. search needs)
+    (λ c κs. search needs)
+    (λ c κs. search needs)
     loop-holds
-    other-holds-requires
+    (λ c κs. search needs)
     returns
-    add-i
-    loop-less
+    (λ c. search needs)
+    (λ c. search needs)
     loop-again
     returns-2)

@@ -8,17 +8,8 @@ use Rattle.rules.specs.Mesh.{mesh}
 use Rattle.checks.proofs.Pairs.{arc-listed}
 use borrow.Author.Tests.{not-true, not-false}
 
-has-face-requires : tie.Need-has-face-requires
-has-face-requires c κs = search needs
-
 returns : tie.Need-returns
 returns c = λ vs ps es fs ks per e. rw (sym (c .before .has-face .ensures vs ps es fs ks per e) ∙ not-true _ (c .if1 .taken))
-
-item-requires : tie.Need-item-requires
-item-requires c κs = search needs
-
-cell6-requires : tie.Need-cell6-requires
-cell6-requires c κs = search needs
 
 returns-2 : tie.Need-returns-2
 returns-2 c =
@@ -27,4 +18,4 @@ returns-2 c =
 
 pub other-holds-spec : {M : Type 1} → statement M
 other-holds-spec =
-    tie.close (tie.spec has-face-requires returns item-requires cell6-requires returns-2)
+    tie.close (tie.spec (λ c κs. search needs) returns (λ c κs. search needs) (λ c κs. search needs) returns-2)

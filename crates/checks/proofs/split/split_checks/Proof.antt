@@ -11,58 +11,25 @@ returns c =
     let a = c .before .args in
     λ vs ps es ks. no-face (mesh vs ps (a .arcs .now) es (a .faces .now) ks) (a .f) (a .s) (a .d) (c .if1 .taken)
 
-vertices-of-requires : tie.Need-vertices-of-requires
-vertices-of-requires c κs = search needs
-
-place-in-requires : tie.Need-place-in-requires
-place-in-requires c κs = search needs
-
 returns-2 : tie.Need-returns-2
 returns-2 c =
     let a = c .before .before .before .before .args in
     λ vs ps es ks. no-source (mesh vs ps (a .arcs .now) es (a .faces .now) ks) (a .f) (a .s) (a .d) (c .before .before .before .if1 .left) (c .before .before .vertices-of .ensures vs ps es ks) (c .before .place-in .ensures) (c .if2 .taken)
-
-place-in-requires-2 : tie.Need-place-in-requires-2
-place-in-requires-2 c κs = search needs
 
 returns-3 : tie.Need-returns-3
 returns-3 c =
     let a = c .before .before .before .before .before .before .args in
     λ vs ps es ks. no-dest (mesh vs ps (a .arcs .now) es (a .faces .now) ks) (a .f) (a .s) (a .d) (c .before .before .before .before .before .if1 .left) (c .before .before .before .before .vertices-of .ensures vs ps es ks) (c .before .before .before .place-in .ensures) (c .before .before .if2 .left) (c .before .place-in2 .ensures) (c .if3 .taken)
 
-size-requires : tie.Need-size-requires
-size-requires c κs = search needs
-
-sub-ring-distance : tie.Need-sub-ring-distance
-sub-ring-distance c = search needs
-
-sub-ring-distance-2 : tie.Need-sub-ring-distance-2
-sub-ring-distance-2 c = search needs
-
-ring-distance-requires : tie.Need-ring-distance-requires
-ring-distance-requires c κs = search needs
-
 returns-4 : tie.Need-returns-4
 returns-4 c =
     let a = c .before .before .before .before .before .before .before .before .before .args in
     λ vs ps es ks. too-near (mesh vs ps (a .arcs .now) es (a .faces .now) ks) (a .f) (a .s) (a .d) (c .before .before .before .before .before .before .before .before .if1 .left) (c .before .before .before .before .before .before .before .vertices-of .ensures vs ps es ks) (c .before .before .before .before .before .before .place-in .ensures) (c .before .before .before .before .before .if2 .left) (c .before .before .before .before .place-in2 .ensures) (c .before .before .before .if3 .left) (c .before .before .size .ensures) (c .before .ring-distance .ensures) (c .if4 .taken)
 
-half-requires : tie.Need-half-requires
-half-requires c κs = search needs
-
-held-by-other-requires : tie.Need-held-by-other-requires
-held-by-other-requires c κs = search needs
-
 returns-5 : tie.Need-returns-5
 returns-5 c =
     let a = c .before .before .before .before .before .before .before .before .before .before .before .before .args in
     λ vs ps es ks. left-held (mesh vs ps (a .arcs .now) es (a .faces .now) ks) (a .f) (a .s) (a .d) (c .before .before .before .before .before .before .before .before .before .before .before .if1 .left) (c .before .before .before .before .before .before .before .before .before .before .vertices-of .ensures vs ps es ks) (c .before .before .before .before .before .before .before .before .before .place-in .ensures) (c .before .before .before .before .before .before .before .before .if2 .left) (c .before .before .before .before .before .before .before .place-in2 .ensures) (c .before .before .before .before .before .before .if3 .left) (c .before .before .before .before .before .size .ensures) (c .before .before .before .before .ring-distance .ensures) (c .before .before .before .if4 .left) (c .before .before .half .ensures vs ps es ks) (c .before .held-by-other .ensures vs ps es (a .faces .now) ks) (c .if5 .taken)
-
-half-requires-2 : tie.Need-half-requires-2
-half-requires-2 c κs = search needs
-
-held-by-other-requires-2 : tie.Need-held-by-other-requires-2
-held-by-other-requires-2 c κs = search needs
 
 returns-6 : tie.Need-returns-6
 returns-6 c =
@@ -79,20 +46,20 @@ split-checks-spec =
     tie.close
     (tie.spec
     returns
-    vertices-of-requires
-    place-in-requires
+    (λ c κs. search needs)
+    (λ c κs. search needs)
     returns-2
-    place-in-requires-2
+    (λ c κs. search needs)
     returns-3
-    size-requires
-    sub-ring-distance
-    sub-ring-distance-2
-    ring-distance-requires
+    (λ c κs. search needs)
+    (λ c. search needs)
+    (λ c. search needs)
+    (λ c κs. search needs)
     returns-4
-    half-requires
-    held-by-other-requires
+    (λ c κs. search needs)
+    (λ c κs. search needs)
     returns-5
-    half-requires-2
-    held-by-other-requires-2
+    (λ c κs. search needs)
+    (λ c κs. search needs)
     returns-6
     returns-7)

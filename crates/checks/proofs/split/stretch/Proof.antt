@@ -17,18 +17,9 @@ Inv-loop list i j n at₀ k₀ at k = (k ≤ n) × (at ≡ placesOf (take k (str
 abbrev μ-loop : tie.MeasureT-loop
 μ-loop list i j n at₀ k₀ at k = n - k
 
-stretch-size-requires : tie.Need-stretch-size-requires Inv-loop μ-loop
-stretch-size-requires c κs = search needs
-
-known-few-requires : tie.Need-known-few-requires Inv-loop μ-loop
-known-few-requires c κs = search needs
-
 loop-holds : tie.Need-loop-holds Inv-loop μ-loop
 unfolding placesOf
 loop-holds c = (search needs, refl)
-
-stretch-item-requires : tie.Need-stretch-item-requires Inv-loop μ-loop
-stretch-item-requires c κs = search needs
 
 mul-at : tie.Need-mul-at Inv-loop μ-loop
 mul-at c =
@@ -39,12 +30,6 @@ array-write-at : tie.Need-array-write-at Inv-loop μ-loop
 array-write-at c =
     let a = c .before .before .before .before .before .args in
     omega (arith, stretch-few (listOf (a .list)) (a .i) (a .j), c .before .before .before .known-few .ensures, c .before .before .before .before .stretch-size .ensures)
-
-add-k : tie.Need-add-k Inv-loop μ-loop
-add-k c = search needs
-
-loop-less : tie.Need-loop-less Inv-loop μ-loop
-loop-less c = search needs
 
 loop-again : tie.Need-loop-again Inv-loop μ-loop
 loop-again c =
@@ -66,13 +51,13 @@ stretch-spec =
     (tie.spec
     Inv-loop
     μ-loop
-    stretch-size-requires
-    known-few-requires
+    (λ c κs. search needs)
+    (λ c κs. search needs)
     loop-holds
-    stretch-item-requires
+    (λ c κs. search needs)
     mul-at
     array-write-at
-    add-k
-    loop-less
+    (λ c. search needs)
+    (λ c. search needs)
     loop-again
     returns)

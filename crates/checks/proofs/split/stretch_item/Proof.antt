@@ -8,18 +8,6 @@ use mathlib.Core.Path.{sym, _∙_}
 use Rattle.rules.specs.Mesh.{listOf}
 use Rattle.checks.proofs.Stretches.{round-first, round-none, round-last, straight-none, straight-at}
 
-size-requires : tie.Need-size-requires
-size-requires c κs = search needs
-
-left-of-requires : tie.Need-left-of-requires
-left-of-requires c κs = search needs
-
-add-item : tie.Need-add-item
-add-item c = search needs
-
-item-requires : tie.Need-item-requires
-item-requires c κs = search needs
-
 returns : tie.Need-returns
 returns c =
     let a = c .before .before .before .before .before .args in
@@ -29,9 +17,6 @@ returns-2 : tie.Need-returns-2
 returns-2 c =
     let a = c .before .before .before .before .before .args in
     sym (round-none (listOf (a .list)) (a .i) (a .j) (a .k) (search needs) (omega (arith, c .before .before .left-of .ensures, c .before .before .before .size .ensures)) (omega (arith, c .before .before .left-of .ensures, c .before .before .before .size .ensures)))
-
-item-requires-2 : tie.Need-item-requires-2
-item-requires-2 c κs = search needs
 
 returns-3 : tie.Need-returns-3
 returns-3 c =
@@ -43,12 +28,6 @@ returns-4 c =
     let a = c .before .before .args in
     sym (straight-none (listOf (a .list)) (a .i) (a .j) (a .k) (search needs) (search needs))
 
-add-item-2 : tie.Need-add-item-2
-add-item-2 c = search needs
-
-item-requires-3 : tie.Need-item-requires-3
-item-requires-3 c κs = search needs
-
 returns-5 : tie.Need-returns-5
 returns-5 c =
     let a = c .before .before .before .args in
@@ -58,15 +37,15 @@ pub stretch-item-spec : {M : Type 1} → statement M
 stretch-item-spec =
     tie.close
     (tie.spec
-    size-requires
-    left-of-requires
-    add-item
-    item-requires
+    (λ c κs. search needs)
+    (λ c κs. search needs)
+    (λ c. search needs)
+    (λ c κs. search needs)
     returns
     returns-2
-    item-requires-2
+    (λ c κs. search needs)
     returns-3
     returns-4
-    add-item-2
-    item-requires-3
+    (λ c. search needs)
+    (λ c κs. search needs)
     returns-5)

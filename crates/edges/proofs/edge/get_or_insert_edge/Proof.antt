@@ -6,28 +6,10 @@ use borrow.Author.Needs.{needs}
 use Rattle.edges.proofs.edge.get_or_insert_edge.Statement.{statement}
 use Rattle.edges.proofs.edge.get_or_insert_edge.Tie as tie
 
-find-arc-requires : tie.Need-find-arc-requires
-find-arc-requires c κs = search needs
-
-new-edge-requires : tie.Need-new-edge-requires
-new-edge-requires c κs = search needs
-
-same-length : tie.Need-same-length
-same-length c = search needs
-
-same-length-2 : tie.Need-same-length-2
-same-length-2 c = search needs
-
-same-length-3 : tie.Need-same-length-3
-same-length-3 c = search needs
-
 returns : tie.Need-returns
 unfolding getOrInsertEdge
 returns c =
     λ p f. rw (eq-eqb _ _ (sym (c .before .before .before .before .before .before .before .before .before .find-arc .ensures) ∙ c .before .before .before .before .before .before .before .before .if1 .taken)) (c .before .before .before .new-edge .ensures p f)
-
-same-length-4 : tie.Need-same-length-4
-same-length-4 c = search needs
 
 returns-2 : tie.Need-returns-2
 unfolding getOrInsertEdge
@@ -37,11 +19,11 @@ pub get-or-insert-edge-spec : {M : Type 1} → statement M
 get-or-insert-edge-spec =
     tie.close
     (tie.spec
-    find-arc-requires
-    new-edge-requires
-    same-length
-    same-length-2
-    same-length-3
+    (λ c κs. search needs)
+    (λ c κs. search needs)
+    (λ c. search needs)
+    (λ c. search needs)
+    (λ c. search needs)
     returns
-    same-length-4
+    (λ c. search needs)
     returns-2)

@@ -4,21 +4,6 @@ use borrow.Author.Needs.{needs}
 use Rattle.edges.proofs.edge.new_arc.Statement.{statement}
 use Rattle.edges.proofs.edge.new_arc.Tie as tie
 
-free6-requires : tie.Need-free6-requires
-free6-requires c κs = search needs
-
-put-row6-requires : tie.Need-put-row6-requires
-put-row6-requires c κs = search needs
-
-set-leading-requires : tie.Need-set-leading-requires
-set-leading-requires c κs = search needs
-
-same-length : tie.Need-same-length
-same-length c = search needs
-
-same-length-2 : tie.Need-same-length-2
-same-length-2 c = search needs
-
 returns : tie.Need-returns
 unfolding newArc
 returns c =
@@ -29,9 +14,9 @@ pub new-arc-spec : {M : Type 1} → statement M
 new-arc-spec =
     tie.close
     (tie.spec
-    free6-requires
-    put-row6-requires
-    set-leading-requires
-    same-length
-    same-length-2
+    (λ c κs. search needs)
+    (λ c κs. search needs)
+    (λ c κs. search needs)
+    (λ c. search needs)
+    (λ c. search needs)
     returns)

@@ -10,15 +10,6 @@ new-edge-from-requires c κs =
     let a = c .before .before .before .before .args in
     (used-none (now (a .arcs)), used-none (now (a .edges)))
 
-same-length : tie.Need-same-length
-same-length c = search needs
-
-same-length-2 : tie.Need-same-length-2
-same-length-2 c = search needs
-
-same-length-3 : tie.Need-same-length-3
-same-length-3 c = search needs
-
 returns : tie.Need-returns
 returns c = λ p f. c .before .before .before .new-edge-from .ensures .1 p f
 
@@ -27,7 +18,7 @@ new-edge-spec =
     tie.close
     (tie.spec
     new-edge-from-requires
-    same-length
-    same-length-2
-    same-length-3
+    (λ c. search needs)
+    (λ c. search needs)
+    (λ c. search needs)
     returns)

@@ -8,38 +8,11 @@ use borrow.Author.Needs.{needs}
 use Rattle.edges.proofs.edge.new_edge_from.Statement.{statement}
 use Rattle.edges.proofs.edge.new_edge_from.Tie as tie
 
-free3-requires : tie.Need-free3-requires
-free3-requires c κs = search needs
-
-new-arc-requires : tie.Need-new-arc-requires
-new-arc-requires c κs = search needs
-
 new-arc-requires-2 : tie.Need-new-arc-requires-2
 new-arc-requires-2 c κs =
     let s = c .before .before .before .before .before .before .before .before .before in
     let one = c .before .before .before .before .new-arc in
     second-from (mesh (now (s .args .vertices)) [] (now (s .args .arcs)) [] [] []) _ _ _ _ _ (one .ensures .0) (one .ensures .1 [] [] [] [])
-
-element-copy-out-key : tie.Need-element-copy-out-key
-element-copy-out-key c = search needs
-
-one-up-requires : tie.Need-one-up-requires
-one-up-requires c κs = search needs
-
-put-row3-requires : tie.Need-put-row3-requires
-put-row3-requires c κs = search needs
-
-element-write-counters : tie.Need-element-write-counters
-element-write-counters c = search needs
-
-same-length : tie.Need-same-length
-same-length c = search needs
-
-same-length-2 : tie.Need-same-length-2
-same-length-2 c = search needs
-
-same-length-3 : tie.Need-same-length-3
-same-length-3 c = search needs
 
 returns : tie.Need-returns
 unfolding newEdge
@@ -56,14 +29,14 @@ pub new-edge-from-spec : {M : Type 1} → statement M
 new-edge-from-spec =
     tie.close
     (tie.spec
-    free3-requires
-    new-arc-requires
+    (λ c κs. search needs)
+    (λ c κs. search needs)
     new-arc-requires-2
-    element-copy-out-key
-    one-up-requires
-    put-row3-requires
-    element-write-counters
-    same-length
-    same-length-2
-    same-length-3
+    (λ c. search needs)
+    (λ c κs. search needs)
+    (λ c κs. search needs)
+    (λ c. search needs)
+    (λ c. search needs)
+    (λ c. search needs)
+    (λ c. search needs)
     returns)

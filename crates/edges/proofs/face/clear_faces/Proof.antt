@@ -16,31 +16,13 @@ Inv-loop arcs₀ ring n i₀ arcs i = (i ≤ n) × ((length arcs ≡ length arcs
 abbrev μ-loop : tie.MeasureT-loop
 μ-loop arcs₀ ring n i₀ arcs i = n - i
 
-size-requires : tie.Need-size-requires Inv-loop μ-loop
-size-requires c κs = search needs
-
 loop-holds : tie.Need-loop-holds Inv-loop μ-loop
 unfolding upTo
 loop-holds c = search needs
 
-item-requires : tie.Need-item-requires Inv-loop μ-loop
-item-requires c κs = search needs
-
-set-face-requires : tie.Need-set-face-requires Inv-loop μ-loop
-set-face-requires c κs = search needs
-
-add-i : tie.Need-add-i Inv-loop μ-loop
-add-i c = search needs
-
-loop-less : tie.Need-loop-less Inv-loop μ-loop
-loop-less c = search needs
-
 loop-again : tie.Need-loop-again Inv-loop μ-loop
 loop-again c =
     (search needs, (search needs, rw (upTo-more, ← c .before .before .before .before .before .loop .inv .1 .1, ← c .before .before .item .ensures, ← c .before .set-face .ensures)))
-
-same-length : tie.Need-same-length Inv-loop μ-loop
-same-length c = search needs
 
 returns : tie.Need-returns Inv-loop μ-loop
 returns c =
@@ -53,12 +35,12 @@ clear-faces-spec =
     (tie.spec
     Inv-loop
     μ-loop
-    size-requires
+    (λ c κs. search needs)
     loop-holds
-    item-requires
-    set-face-requires
-    add-i
-    loop-less
+    (λ c κs. search needs)
+    (λ c κs. search needs)
+    (λ c. search needs)
+    (λ c. search needs)
     loop-again
-    same-length
+    (λ c. search needs)
     returns)

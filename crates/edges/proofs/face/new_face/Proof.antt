@@ -5,24 +5,6 @@ use borrow.Author.Needs.{needs}
 use Rattle.edges.proofs.face.new_face.Statement.{statement}
 use Rattle.edges.proofs.face.new_face.Tie as tie
 
-free3-requires : tie.Need-free3-requires
-free3-requires c κs = search needs
-
-element-copy-out-key : tie.Need-element-copy-out-key
-element-copy-out-key c = search needs
-
-one-up-requires : tie.Need-one-up-requires
-one-up-requires c κs = search needs
-
-put-row3-requires : tie.Need-put-row3-requires
-put-row3-requires c κs = search needs
-
-element-write-counters : tie.Need-element-write-counters
-element-write-counters c = search needs
-
-same-length : tie.Need-same-length
-same-length c = search needs
-
 returns : tie.Need-returns
 unfolding newFace
 returns c =
@@ -33,10 +15,10 @@ pub new-face-spec : {M : Type 1} → statement M
 new-face-spec =
     tie.close
     (tie.spec
-    free3-requires
-    element-copy-out-key
-    one-up-requires
-    put-row3-requires
-    element-write-counters
-    same-length
+    (λ c κs. search needs)
+    (λ c. search needs)
+    (λ c κs. search needs)
+    (λ c κs. search needs)
+    (λ c. search needs)
+    (λ c. search needs)
     returns)

@@ -6,27 +6,6 @@ use borrow.Author.Needs.{needs}
 use Rattle.edges.proofs.vertex.new_vertex.Statement.{statement}
 use Rattle.edges.proofs.vertex.new_vertex.Tie as tie
 
-free2-requires : tie.Need-free2-requires
-free2-requires c κs = search needs
-
-element-copy-out-key : tie.Need-element-copy-out-key
-element-copy-out-key c = search needs
-
-put-vertex-requires : tie.Need-put-vertex-requires
-put-vertex-requires c κs = search needs
-
-one-up-requires : tie.Need-one-up-requires
-one-up-requires c κs = search needs
-
-element-write-counters : tie.Need-element-write-counters
-element-write-counters c = search needs
-
-same-length : tie.Need-same-length
-same-length c = search needs
-
-same-length-2 : tie.Need-same-length-2
-same-length-2 c = search needs
-
 returns : tie.Need-returns
 unfolding newVertex
 returns c =
@@ -38,11 +17,11 @@ pub new-vertex-spec : {M : Type 1} → statement M
 new-vertex-spec =
     tie.close
     (tie.spec
-    free2-requires
-    element-copy-out-key
-    put-vertex-requires
-    one-up-requires
-    element-write-counters
-    same-length
-    same-length-2
+    (λ c κs. search needs)
+    (λ c. search needs)
+    (λ c κs. search needs)
+    (λ c κs. search needs)
+    (λ c. search needs)
+    (λ c. search needs)
+    (λ c. search needs)
     returns)

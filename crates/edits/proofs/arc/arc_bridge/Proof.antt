@@ -14,15 +14,6 @@ use borrow.Author.Needs.{needs}
 use Rattle.edits.proofs.arc.arc_bridge.Statement.{statement}
 use Rattle.edits.proofs.arc.arc_bridge.Tie as tie
 
-corners-of-requires : tie.Need-corners-of-requires
-corners-of-requires c κs = search needs
-
-corner-list-requires : tie.Need-corner-list-requires
-corner-list-requires c κs = search needs
-
-known-few-requires : tie.Need-known-few-requires
-known-few-requires c κs = search needs
-
 perimeter-arcs-near-requires : tie.Need-perimeter-arcs-near-requires
 perimeter-arcs-near-requires c κs = c .before .before .before .before .before .before .pre .1 .listed
 
@@ -38,12 +29,6 @@ arc-bridge-checks-by-requires c κs =
     let per = c .before .before .before .before .before .corner-list in
     (λ vs ps es fs ks. corners-back (mesh vs ps (a .arcs .now) es fs ks) (a .x) (a .y) (per .result) (per .ensures ∙ ap linksOf (c .before .before .before .before .before .before .corners-of .ensures vs ps es fs ks)), held (c .before))
 
-accepted-requires : tie.Need-accepted-requires
-accepted-requires c κs = search needs
-
-same-length : tie.Need-same-length
-same-length c = search needs
-
 returns : tie.Need-returns
 unfolding arcBridge
 returns c =
@@ -52,9 +37,6 @@ returns c =
     let m : Mesh = mesh (a .vertices .now) p (a .arcs .now) (a .edges .now) (a .faces .now) (a .counters .now) in
     let k = c .before .before .arc-bridge-checks-by in
     checked-refused m (arcBridgeWork m (a .x) (a .y)) (k .result) (arcBridgeChecks m (a .x) (a .y)) (k .ensures (a .vertices .now) p (a .edges .now) (a .faces .now) (a .counters .now)) (sym (c .before .accepted .ensures) ∙ not-true _ (c .if1 .taken))
-
-element-copy-out-key : tie.Need-element-copy-out-key
-element-copy-out-key c = search needs
 
 insert-by-requires : tie.Need-insert-by-requires
 insert-by-requires c κs =
@@ -97,15 +79,15 @@ pub arc-bridge-spec : {M : Type 1} → statement M
 arc-bridge-spec =
     tie.close
     (tie.spec
-    corners-of-requires
-    corner-list-requires
-    known-few-requires
+    (λ c κs. search needs)
+    (λ c κs. search needs)
+    (λ c κs. search needs)
     perimeter-arcs-near-requires
     arc-bridge-checks-by-requires
-    accepted-requires
-    same-length
+    (λ c κs. search needs)
+    (λ c. search needs)
     returns
-    element-copy-out-key
+    (λ c. search needs)
     insert-by-requires
     same-length-2
     same-length-3

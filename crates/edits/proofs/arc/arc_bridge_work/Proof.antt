@@ -8,12 +8,6 @@ use borrow.Author.Needs.{needs}
 use Rattle.edits.proofs.arc.arc_bridge_work.Statement.{statement}
 use Rattle.edits.proofs.arc.arc_bridge_work.Tie as tie
 
-corners-between-requires : tie.Need-corners-between-requires
-corners-between-requires c κs = search needs
-
-element-copy-out-key : tie.Need-element-copy-out-key
-element-copy-out-key c = search needs
-
 insert-by-requires : tie.Need-insert-by-requires
 insert-by-requires c κs =
     let s = c .before .before .before .before .before .before .before .before .before .before in
@@ -52,8 +46,8 @@ pub arc-bridge-work-spec : {M : Type 1} → statement M
 arc-bridge-work-spec =
     tie.close
     (tie.spec
-    corners-between-requires
-    element-copy-out-key
+    (λ c κs. search needs)
+    (λ c. search needs)
     insert-by-requires
     same-length
     same-length-2

@@ -9,41 +9,14 @@ use borrow.Author.Needs.{needs}
 use Rattle.edits.proofs.arc.arc_extrude_work.Statement.{statement}
 use Rattle.edits.proofs.arc.arc_extrude_work.Tie as tie
 
-cell6-requires : tie.Need-cell6-requires
-cell6-requires c κs = search needs
-
-cell6-requires-2 : tie.Need-cell6-requires-2
-cell6-requires-2 c κs = search needs
-
-element-copy-out-first : tie.Need-element-copy-out-first
-element-copy-out-first c = search needs
-
-position-at-requires : tie.Need-position-at-requires
-position-at-requires c κs = search needs
-
-moved-requires : tie.Need-moved-requires
-moved-requires c κs = search needs
-
 new-vertex-requires : tie.Need-new-vertex-requires
 new-vertex-requires c κs = λ k q. let z : ⊥ = omega arith in absurd z
-
-element-copy-out-second : tie.Need-element-copy-out-second
-element-copy-out-second c = search needs
-
-position-at-requires-2 : tie.Need-position-at-requires-2
-position-at-requires-2 c κs = search needs
-
-moved-requires-2 : tie.Need-moved-requires-2
-moved-requires-2 c κs = search needs
 
 new-vertex-requires-2 : tie.Need-new-vertex-requires-2
 new-vertex-requires-2 c κs = λ k q. let z : ⊥ = omega arith in absurd z
 
 joined-requires : tie.Need-joined-requires
 joined-requires c κs = c .before .before .before .before .before .before .before .before .before .before .before .before .before .before .before .before .before .before .before .before .before .before .before .before .before .before .before .before .before .before .before .pre
-
-answering-requires : tie.Need-answering-requires
-answering-requires c κs = search needs
 
 same-length : tie.Need-same-length
 same-length c = c .before .before .before .before .before .before .before .joined .kept .0 ∙ c .before .before .before .before .before .before .before .before .before .before .before .before .before .before .before .before .before .new-vertex2 .kept .0 ∙ c .before .before .before .before .before .before .before .before .before .before .before .before .before .before .before .before .before .before .before .before .before .before .before .before .before .before .before .new-vertex .kept .0
@@ -83,18 +56,18 @@ pub arc-extrude-work-spec : {M : Type 1} → statement M
 arc-extrude-work-spec =
     tie.close
     (tie.spec
-    cell6-requires
-    cell6-requires-2
-    element-copy-out-first
-    position-at-requires
-    moved-requires
+    (λ c κs. search needs)
+    (λ c κs. search needs)
+    (λ c. search needs)
+    (λ c κs. search needs)
+    (λ c κs. search needs)
     new-vertex-requires
-    element-copy-out-second
-    position-at-requires-2
-    moved-requires-2
+    (λ c. search needs)
+    (λ c κs. search needs)
+    (λ c κs. search needs)
     new-vertex-requires-2
     joined-requires
-    answering-requires
+    (λ c κs. search needs)
     same-length
     same-length-2
     same-length-3

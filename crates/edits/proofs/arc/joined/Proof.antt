@@ -10,15 +10,6 @@ use borrow.Author.Needs.{needs}
 use Rattle.edits.proofs.arc.joined.Statement.{statement}
 use Rattle.edits.proofs.arc.joined.Tie as tie
 
-two-requires : tie.Need-two-requires
-two-requires c κs = search needs
-
-two-requires-2 : tie.Need-two-requires-2
-two-requires-2 c κs = search needs
-
-near-edit-requires : tie.Need-near-edit-requires
-near-edit-requires c κs = search needs
-
 edge-near-requires : tie.Need-edge-near-requires
 edge-near-requires c κs =
     let k = c .before .before .before .before .before .before .near-edit .ensures in
@@ -68,9 +59,9 @@ pub joined-spec : {M : Type 1} → statement M
 joined-spec =
     tie.close
     (tie.spec
-    two-requires
-    two-requires-2
-    near-edit-requires
+    (λ c κs. search needs)
+    (λ c κs. search needs)
+    (λ c κs. search needs)
     edge-near-requires
     arc-bridge-requires
     same-length

@@ -9,9 +9,6 @@ use borrow.Author.Needs.{needs}
 use Rattle.edits.proofs.face.insert_face.Statement.{statement}
 use Rattle.edits.proofs.face.insert_face.Tie as tie
 
-known-few-requires : tie.Need-known-few-requires
-known-few-requires c κs = search needs
-
 perimeter-arcs-near-requires : tie.Need-perimeter-arcs-near-requires
 perimeter-arcs-near-requires c κs = c .before .before .before .pre .1 .listed
 
@@ -24,21 +21,12 @@ held c =
 insert-checks-by-requires : tie.Need-insert-checks-by-requires
 insert-checks-by-requires c κs = held (c .before)
 
-accepted-requires : tie.Need-accepted-requires
-accepted-requires c κs = search needs
-
-same-length : tie.Need-same-length
-same-length c = search needs
-
 returns : tie.Need-returns
 returns c =
     λ p.
     let a = c .before .before .before .before .before .before .before .before .args in
     let k = c .before .before .insert-checks-by in
     insert-refused (mesh (a .vertices .now) p (a .arcs .now) (a .edges .now) (a .faces .now) (a .counters .now)) (listOf (a .per)) (a .mark) (k .result) (k .ensures (a .vertices .now) p (a .edges .now) (a .faces .now) (a .counters .now)) (sym (c .before .accepted .ensures) ∙ not-true _ (c .if1 .taken))
-
-element-copy-out-key : tie.Need-element-copy-out-key
-element-copy-out-key c = search needs
 
 insert-by-requires : tie.Need-insert-by-requires
 insert-by-requires c κs =
@@ -75,13 +63,13 @@ pub insert-face-spec : {M : Type 1} → statement M
 insert-face-spec =
     tie.close
     (tie.spec
-    known-few-requires
+    (λ c κs. search needs)
     perimeter-arcs-near-requires
     insert-checks-by-requires
-    accepted-requires
-    same-length
+    (λ c κs. search needs)
+    (λ c. search needs)
     returns
-    element-copy-out-key
+    (λ c. search needs)
     insert-by-requires
     same-length-2
     same-length-3

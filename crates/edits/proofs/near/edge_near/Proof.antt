@@ -13,9 +13,6 @@ use Rattle.edits.proofs.near.edge_near.Tie as tie
 arc-between-near-requires : tie.Need-arc-between-near-requires
 arc-between-near-requires c κs = c .before .before .pre .0
 
-same-length : tie.Need-same-length
-same-length c = search needs
-
 returns : tie.Need-returns
 returns c =
     let a = c .before .before .before .before .args in
@@ -60,7 +57,7 @@ edge-near-spec =
     tie.close
     (tie.spec
     arc-between-near-requires
-    same-length
+    (λ c. search needs)
     returns
     new-edge-from-requires
     arc-between-near-requires-2

@@ -6,21 +6,6 @@ use borrow.Author.Needs.{needs}
 use Rattle.edits.proofs.near.near_edit.Statement.{statement}
 use Rattle.edits.proofs.near.near_edit.Tie as tie
 
-mark-requires : tie.Need-mark-requires
-mark-requires c κs = search needs
-
-mark-requires-2 : tie.Need-mark-requires-2
-mark-requires-2 c κs = search needs
-
-mul-list-near : tie.Need-mul-list-near
-mul-list-near c = search needs
-
-add-list-near : tie.Need-add-list-near
-add-list-near c = search needs
-
-list-near-requires : tie.Need-list-near-requires
-list-near-requires c κs = search needs
-
 free3-requires : tie.Need-free3-requires
 free3-requires c κs = used-none (c .before .before .before .before .before .before .before .args .edges .now)
 
@@ -44,11 +29,11 @@ pub near-edit-spec : {M : Type 1} → statement M
 near-edit-spec =
     tie.close
     (tie.spec
-    mark-requires
-    mark-requires-2
-    mul-list-near
-    add-list-near
-    list-near-requires
+    (λ c κs. search needs)
+    (λ c κs. search needs)
+    (λ c. search needs)
+    (λ c. search needs)
+    (λ c κs. search needs)
     free3-requires
     free3-requires-2
     returns)

@@ -5,9 +5,6 @@ use borrow.Author.Needs.{needs}
 use Rattle.edits.proofs.pieces.answering.Statement.{statement}
 use Rattle.edits.proofs.pieces.answering.Tie as tie
 
-accepted-requires : tie.Need-accepted-requires
-accepted-requires c κs = search needs
-
 returns : tie.Need-returns
 returns c = λ m. sym (answers-it (c .before .before .args .a) (step m (c .before .before .args .told)) (sym (c .before .accepted .ensures) ∙ c .if1 .taken))
 
@@ -15,4 +12,4 @@ returns-2 : tie.Need-returns-2
 returns-2 c = λ m. sym (answers-not (c .before .before .args .a) (step m (c .before .before .args .told)) (sym (c .before .accepted .ensures) ∙ c .if1 .left))
 
 pub answering-spec : {M : Type 1} → statement M
-answering-spec = tie.close (tie.spec accepted-requires returns returns-2)
+answering-spec = tie.close (tie.spec (λ c κs. search needs) returns returns-2)

@@ -8,41 +8,8 @@ use borrow.Author.Needs.{needs}
 use Rattle.insert.proofs.face.insert_copied.Statement.{statement}
 use Rattle.insert.proofs.face.insert_copied.Tie as tie
 
-known-few-requires : tie.Need-known-few-requires
-known-few-requires c κs = search needs
-
-copy6-requires : tie.Need-copy6-requires
-copy6-requires c κs = search needs
-
-copy3-requires : tie.Need-copy3-requires
-copy3-requires c κs = search needs
-
-count-used6-requires : tie.Need-count-used6-requires
-count-used6-requires c κs = search needs
-
-leading-arcs-requires : tie.Need-leading-arcs-requires
-leading-arcs-requires c κs = search needs
-
 put-face-by-requires : tie.Need-put-face-by-requires
 put-face-by-requires c κs = c .before .before .before .before .before .before .before .before .before .before .before .before .before .before .before .before .before .before .before .before .pre .1
-
-same-length : tie.Need-same-length
-same-length c = search needs
-
-same-length-2 : tie.Need-same-length-2
-same-length-2 c = search needs
-
-same-length-3 : tie.Need-same-length-3
-same-length-3 c = search needs
-
-same-length-4 : tie.Need-same-length-4
-same-length-4 c = search needs
-
-same-length-5 : tie.Need-same-length-5
-same-length-5 c = search needs
-
-same-length-6 : tie.Need-same-length-6
-same-length-6 c = search needs
 
 returns : tie.Need-returns
 returns c =
@@ -56,16 +23,16 @@ pub insert-copied-spec : {M : Type 1} → statement M
 insert-copied-spec =
     tie.close
     (tie.spec
-    known-few-requires
-    copy6-requires
-    copy3-requires
-    count-used6-requires
-    leading-arcs-requires
+    (λ c κs. search needs)
+    (λ c κs. search needs)
+    (λ c κs. search needs)
+    (λ c κs. search needs)
+    (λ c κs. search needs)
     put-face-by-requires
-    same-length
-    same-length-2
-    same-length-3
-    same-length-4
-    same-length-5
-    same-length-6
+    (λ c. search needs)
+    (λ c. search needs)
+    (λ c. search needs)
+    (λ c. search needs)
+    (λ c. search needs)
+    (λ c. search needs)
     returns)

@@ -7,12 +7,6 @@ use borrow.Author.Needs.{needs}
 use Rattle.insert.proofs.face.insert_in_rows.Statement.{statement}
 use Rattle.insert.proofs.face.insert_in_rows.Tie as tie
 
-known-few-requires : tie.Need-known-few-requires
-known-few-requires c κs = search needs
-
-leading-arcs-requires : tie.Need-leading-arcs-requires
-leading-arcs-requires c κs = search needs
-
 take-lists-requires : tie.Need-take-lists-requires
 take-lists-requires c κs =
     let s = c .before .before .before .before .before .before in
@@ -24,21 +18,6 @@ put-face-taken-requires c κs =
     let s = c .before .before .before .before .before .before .before .before .before .before .before .before .before .before .before in
     ((omega (arith, s .pre .1 .0, c .before .before .before .before .before .before .before .before .take-lists .kept .1 .1 .1 .0), s .pre .1 .1 .0), s .pre .1 .1 .1)
 
-same-length : tie.Need-same-length
-same-length c = search needs
-
-same-length-2 : tie.Need-same-length-2
-same-length-2 c = search needs
-
-same-length-3 : tie.Need-same-length-3
-same-length-3 c = search needs
-
-same-length-4 : tie.Need-same-length-4
-same-length-4 c = search needs
-
-same-length-5 : tie.Need-same-length-5
-same-length-5 c = search needs
-
 returns : tie.Need-returns
 returns c =
     λ p.
@@ -49,53 +28,26 @@ returns c =
     let o : Mesh = mesh (g .last .0) p (g .last .1 .0) (g .last .1 .1 .0) (g .last .1 .1 .1 .0) (g .last .1 .1 .1 .1 .0) in
     insert-taken m (listOf (a .per)) (t .last .1 .1 .1 .0) (c .before .before .before .before .before .before .before .before .before .before .before .before .before .before .before .before .before .leading-arcs .result) (c .before .before .before .before .before .before .before .before .before .before .before .before .before .before .before .before .before .before .before .known-few .ensures) (c .before .before .before .before .before .before .before .before .before .before .before .before .before .before .before .before .before .leading-arcs .ensures) (t .ensures (c .before .before .before .before .before .before .before .before .before .before .before .if1 .taken)) o (a .mark) (g .ensures p)
 
-insert-copied-requires : tie.Need-insert-copied-requires
-insert-copied-requires c κs = search needs
-
-same-length-6 : tie.Need-same-length-6
-same-length-6 c = search needs
-
-same-length-7 : tie.Need-same-length-7
-same-length-7 c = search needs
-
-same-length-8 : tie.Need-same-length-8
-same-length-8 c = search needs
-
-same-length-9 : tie.Need-same-length-9
-same-length-9 c = search needs
-
-same-length-10 : tie.Need-same-length-10
-same-length-10 c = search needs
-
-same-length-11 : tie.Need-same-length-11
-same-length-11 c = search needs
-
-same-length-12 : tie.Need-same-length-12
-same-length-12 c = search needs
-
-returns-2 : tie.Need-returns-2
-returns-2 c = search needs
-
 pub insert-in-rows-spec : {M : Type 1} → statement M
 insert-in-rows-spec =
     tie.close
     (tie.spec
-    known-few-requires
-    leading-arcs-requires
+    (λ c κs. search needs)
+    (λ c κs. search needs)
     take-lists-requires
     put-face-taken-requires
-    same-length
-    same-length-2
-    same-length-3
-    same-length-4
-    same-length-5
+    (λ c. search needs)
+    (λ c. search needs)
+    (λ c. search needs)
+    (λ c. search needs)
+    (λ c. search needs)
     returns
-    insert-copied-requires
-    same-length-6
-    same-length-7
-    same-length-8
-    same-length-9
-    same-length-10
-    same-length-11
-    same-length-12
-    returns-2)
+    (λ c κs. search needs)
+    (λ c. search needs)
+    (λ c. search needs)
+    (λ c. search needs)
+    (λ c. search needs)
+    (λ c. search needs)
+    (λ c. search needs)
+    (λ c. search needs)
+    (λ c. search needs))

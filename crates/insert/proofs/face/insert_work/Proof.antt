@@ -6,24 +6,6 @@ use Rattle.pairs.proofs.Listed.{arcs-held}
 use Rattle.insert.proofs.face.insert_work.Statement.{statement}
 use Rattle.insert.proofs.face.insert_work.Tie as tie
 
-known-few-requires : tie.Need-known-few-requires
-known-few-requires c κs = search needs
-
-mark-requires : tie.Need-mark-requires
-mark-requires c κs = search needs
-
-size-requires : tie.Need-size-requires
-size-requires c κs = search needs
-
-mul-list-near : tie.Need-mul-list-near
-mul-list-near c = search needs
-
-add-list-near : tie.Need-add-list-near
-add-list-near c = search needs
-
-list-near-requires : tie.Need-list-near-requires
-list-near-requires c κs = search needs
-
 perimeter-arcs-near-requires : tie.Need-perimeter-arcs-near-requires
 perimeter-arcs-near-requires c κs = c .before .before .before .list-near .ensures .0
 
@@ -58,12 +40,12 @@ pub insert-work-spec : {M : Type 1} → statement M
 insert-work-spec =
     tie.close
     (tie.spec
-    known-few-requires
-    mark-requires
-    size-requires
-    mul-list-near
-    add-list-near
-    list-near-requires
+    (λ c κs. search needs)
+    (λ c κs. search needs)
+    (λ c κs. search needs)
+    (λ c. search needs)
+    (λ c. search needs)
+    (λ c κs. search needs)
     perimeter-arcs-near-requires
     insert-by-requires
     same-length

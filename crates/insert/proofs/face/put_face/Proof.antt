@@ -5,12 +5,6 @@ use Rattle.pairs.proofs.Listed.{arcs-held}
 use Rattle.insert.proofs.face.put_face.Statement.{statement}
 use Rattle.insert.proofs.face.put_face.Tie as tie
 
-known-few-requires : tie.Need-known-few-requires
-known-few-requires c κs = search needs
-
-perimeter-arcs-requires : tie.Need-perimeter-arcs-requires
-perimeter-arcs-requires c κs = search needs
-
 put-face-by-requires : tie.Need-put-face-by-requires
 put-face-by-requires c κs =
     let a = c .before .before .before .before .before .before .before .before .args in
@@ -35,8 +29,8 @@ pub put-face-spec : {M : Type 1} → statement M
 put-face-spec =
     tie.close
     (tie.spec
-    known-few-requires
-    perimeter-arcs-requires
+    (λ c κs. search needs)
+    (λ c κs. search needs)
     put-face-by-requires
     same-length
     same-length-2

@@ -14,29 +14,8 @@ edges-in-requires c κs =
 arcs-told-requires : tie.Need-arcs-told-requires
 arcs-told-requires c κs = c .before .before .before .before .edges-in .ensures .1
 
-item-requires : tie.Need-item-requires
-item-requires c κs = search needs
-
 new-face-requires : tie.Need-new-face-requires
 new-face-requires c κs = used-none (c .before .before .before .before .before .before .before .before .before .before .before .before .before .args .faces .now)
-
-interior-requires : tie.Need-interior-requires
-interior-requires c κs = search needs
-
-exterior-requires : tie.Need-exterior-requires
-exterior-requires c κs = search needs
-
-same-length : tie.Need-same-length
-same-length c = search needs
-
-same-length-2 : tie.Need-same-length-2
-same-length-2 c = search needs
-
-same-length-3 : tie.Need-same-length-3
-same-length-3 c = search needs
-
-same-length-4 : tie.Need-same-length-4
-same-length-4 c = search needs
 
 returns : tie.Need-returns
 returns c =
@@ -52,12 +31,12 @@ put-face-by-spec =
     (tie.spec
     edges-in-requires
     arcs-told-requires
-    item-requires
+    (λ c κs. search needs)
     new-face-requires
-    interior-requires
-    exterior-requires
-    same-length
-    same-length-2
-    same-length-3
-    same-length-4
+    (λ c κs. search needs)
+    (λ c κs. search needs)
+    (λ c. search needs)
+    (λ c. search needs)
+    (λ c. search needs)
+    (λ c. search needs)
     returns)

@@ -16,33 +16,12 @@ edges-in-requires c κs =
 arcs-told-requires : tie.Need-arcs-told-requires
 arcs-told-requires c κs = c .before .before .before .before .edges-in .ensures .1
 
-item-requires : tie.Need-item-requires
-item-requires c κs = search needs
-
-new-face-requires : tie.Need-new-face-requires
-new-face-requires c κs = search needs
-
-interior-requires : tie.Need-interior-requires
-interior-requires c κs = search needs
-
 exterior-requires : tie.Need-exterior-requires
 exterior-requires c κs =
     let a = c .before .before .before .before .before .before .before .before .before .before .before .before .before .before .before .before .before .before .before .before .args in
     let t = c .before .before .before .before .before .before .before .before .before .before .arcs-told in
     let many : length (listOf (c .before .before .before .before .before .before .before .before .before .before .arcs-told .result)) ≡ length (listOf (a .per)) = ap length (t .ensures) ∙ arcs-length (c .before .before .before .before .before .before .before .before .before .before .before .before .before .before .before .edges-in .last .1 .0) (listOf (a .per)) in
     rw many (c .before .before .before .before .before .before .before .before .before .before .before .before .before .before .before .before .before .before .before .before .pre .0 .0)
-
-same-length : tie.Need-same-length
-same-length c = search needs
-
-same-length-2 : tie.Need-same-length-2
-same-length-2 c = search needs
-
-same-length-3 : tie.Need-same-length-3
-same-length-3 c = search needs
-
-same-length-4 : tie.Need-same-length-4
-same-length-4 c = search needs
 
 returns : tie.Need-returns
 returns c =
@@ -58,12 +37,12 @@ put-face-taken-spec =
     (tie.spec
     edges-in-requires
     arcs-told-requires
-    item-requires
-    new-face-requires
-    interior-requires
+    (λ c κs. search needs)
+    (λ c κs. search needs)
+    (λ c κs. search needs)
     exterior-requires
-    same-length
-    same-length-2
-    same-length-3
-    same-length-4
+    (λ c. search needs)
+    (λ c. search needs)
+    (λ c. search needs)
+    (λ c. search needs)
     returns)

@@ -6,15 +6,6 @@ use Rattle.pairs.proofs.Listed.{arcs-held}
 use Rattle.insert.proofs.perimeter.arcs_told.Statement.{statement}
 use Rattle.insert.proofs.perimeter.arcs_told.Tie as tie
 
-known-few-requires : tie.Need-known-few-requires
-known-few-requires c κs = search needs
-
-has-from-requires : tie.Need-has-from-requires
-has-from-requires c κs = search needs
-
-perimeter-arcs-requires : tie.Need-perimeter-arcs-requires
-perimeter-arcs-requires c κs = search needs
-
 returns : tie.Need-returns
 returns c =
     let s = c .before .before .before .before in
@@ -27,4 +18,4 @@ returns-2 c = c .before .before .before .pre (sym (c .before .has-from .ensures)
 pub arcs-told-spec : {M : Type 1} → statement M
 arcs-told-spec =
     tie.close
-    (tie.spec known-few-requires has-from-requires perimeter-arcs-requires returns returns-2)
+    (tie.spec (λ c κs. search needs) (λ c κs. search needs) (λ c κs. search needs) returns returns-2)

@@ -11,18 +11,6 @@ use borrow.Author.Needs.{needs}
 use Rattle.insert.proofs.perimeter.edge_in.Statement.{statement}
 use Rattle.insert.proofs.perimeter.edge_in.Tie as tie
 
-get-or-insert-edge-requires : tie.Need-get-or-insert-edge-requires
-get-or-insert-edge-requires c κs = search needs
-
-same-length : tie.Need-same-length
-same-length c = search needs
-
-same-length-2 : tie.Need-same-length-2
-same-length-2 c = search needs
-
-same-length-3 : tie.Need-same-length-3
-same-length-3 c = search needs
-
 returns : tie.Need-returns
 returns c = λ per i h k.
     let a = c .before .before .before .before .before .before .before .before .before .args in
@@ -37,21 +25,6 @@ returns-2 c = λ per i h k.
     let apart = sym (h .before) ∙ c .before .if1 .left in
     let x = k .tells apart in
     (λ p q. pair-there (mesh (a .vertices .now) p (a .arcs .now) (a .edges .now) q (a .counters .now)) per i refl refl (h .from) (h .to) x (c .if2 .taken), ((k .arcs-used, k .edges-used), λ known. (apart, x)))
-
-new-edge-from-requires : tie.Need-new-edge-from-requires
-new-edge-from-requires c κs = search needs
-
-arc-known-requires : tie.Need-arc-known-requires
-arc-known-requires c κs = search needs
-
-same-length-4 : tie.Need-same-length-4
-same-length-4 c = search needs
-
-same-length-5 : tie.Need-same-length-5
-same-length-5 c = search needs
-
-same-length-6 : tie.Need-same-length-6
-same-length-6 c = search needs
 
 returns-3 : tie.Need-returns-3
 returns-3 c = λ per i h k.
@@ -73,15 +46,15 @@ pub edge-in-spec : {M : Type 1} → statement M
 edge-in-spec =
     tie.close
     (tie.spec
-    get-or-insert-edge-requires
-    same-length
-    same-length-2
-    same-length-3
+    (λ c κs. search needs)
+    (λ c. search needs)
+    (λ c. search needs)
+    (λ c. search needs)
     returns
     returns-2
-    new-edge-from-requires
-    arc-known-requires
-    same-length-4
-    same-length-5
-    same-length-6
+    (λ c κs. search needs)
+    (λ c κs. search needs)
+    (λ c. search needs)
+    (λ c. search needs)
+    (λ c. search needs)
     returns-3)

@@ -25,12 +25,6 @@ Inv-loop vertices₀ arcs₀ edges₀ counters₀ xs n ends at₀ from₀ i₀ v
 abbrev μ-loop : tie.MeasureT-loop
 μ-loop vertices₀ arcs₀ edges₀ counters₀ xs n ends at₀ from₀ i₀ vertices arcs edges counters at from i = n - i
 
-size-requires : tie.Need-size-requires Inv-loop μ-loop
-size-requires c κs = search needs
-
-known-few-requires : tie.Need-known-few-requires Inv-loop μ-loop
-known-few-requires c κs = search needs
-
 loop-holds : tie.Need-loop-holds Inv-loop μ-loop
 unfolding upTo
 loop-holds c =
@@ -44,17 +38,11 @@ loop-holds c =
 met-before-requires : tie.Need-met-before-requires Inv-loop μ-loop
 met-before-requires c κs = (omega (arith, c .before .before .before .before .before .size .ensures, c .before .before .before .before .known-few .ensures), c .before .loop-test .taken)
 
-place-after-requires : tie.Need-place-after-requires Inv-loop μ-loop
-place-after-requires c κs = search needs
-
 mul-to : tie.Need-mul-to Inv-loop μ-loop
 mul-to c = let on = next-on (c .before .before .before .before .before .before .before .size .result) (c .before .before .before .before .loop .i) (c .place-after .result) (c .before .before .before .loop-test .taken) (c .place-after .ensures) in omega (arith, on, c .before .before .before .before .before .before .before .size .ensures, c .before .before .before .before .before .before .known-few .ensures)
 
 array-read-to : tie.Need-array-read-to Inv-loop μ-loop
 array-read-to c = let on = next-on (c .before .before .before .before .before .before .before .size .result) (c .before .before .before .before .loop .i) (c .place-after .result) (c .before .before .before .loop-test .taken) (c .place-after .ensures) in omega (arith, on, c .before .before .before .before .before .before .before .size .ensures, c .before .before .before .before .before .before .known-few .ensures)
-
-item-requires : tie.Need-item-requires Inv-loop μ-loop
-item-requires c κs = search needs
 
 mul-edge-in : tie.Need-mul-edge-in Inv-loop μ-loop
 mul-edge-in c = omega (arith, c .before .before .before .before .before .before .before .before .before .before .before .before .size .ensures, c .before .before .before .before .before .before .before .before .before .before .before .known-few .ensures, c .before .before .before .before .before .before .before .before .loop-test .taken)
@@ -65,17 +53,8 @@ array-read-edge-in c = omega (arith, c .before .before .before .before .before .
 edge-in-requires : tie.Need-edge-in-requires Inv-loop μ-loop
 edge-in-requires c κs = c .before .before .before .before .before .before .before .before .before .loop .inv .1 .1 .1 .1 .1 .1 .0
 
-mul-at : tie.Need-mul-at Inv-loop μ-loop
-mul-at c = search needs
-
 array-write-at : tie.Need-array-write-at Inv-loop μ-loop
 array-write-at c = omega (arith, c .before .before .before .before .before .before .before .before .before .before .before .before .before .before .loop .inv .1 .1 .1 .1 .1 .1 .1 .0, c .before .before .before .before .before .before .before .before .before .before .before .before .before .before .before .before .known-few .ensures, c .before .before .before .before .before .before .before .before .before .before .before .before .before .before .before .before .before .size .ensures, c .before .before .before .before .before .before .before .before .before .before .before .before .before .loop-test .taken)
-
-add-i : tie.Need-add-i Inv-loop μ-loop
-add-i c = search needs
-
-loop-less : tie.Need-loop-less Inv-loop μ-loop
-loop-less c = search needs
 
 loop-again : tie.Need-loop-again Inv-loop μ-loop
 loop-again c =
@@ -98,15 +77,6 @@ loop-again c =
     let told = told-more m o per (l .at) (l .i) (g .result .arc) (omega (arith, t .1 .1 .0, few, n .ensures, on)) (h .0 [] []) (h .1 .1) (t .1 .1 .1) in
     (omega (arith, on), (g .kept .0 ∙ v .0, (g .kept .1 .0 ∙ v .1 .0, (g .kept .1 .1 .0 ∙ v .1 .1 .0, (λ p f. edges-more (mesh (a .vertices .now) p (a .arcs .now) (a .edges .now) f (a .counters .now)) per (l .i) (v .1 .1 .1 .0 p f) (h .0 p f), (tells, (h .1 .0, (length-set (l .at) (l .i) (g .result .arc) ∙ t .1 .1 .0, told))))))))
 
-same-length : tie.Need-same-length Inv-loop μ-loop
-same-length c = search needs
-
-same-length-2 : tie.Need-same-length-2 Inv-loop μ-loop
-same-length-2 c = search needs
-
-same-length-3 : tie.Need-same-length-3 Inv-loop μ-loop
-same-length-3 c = search needs
-
 returns : tie.Need-returns Inv-loop μ-loop
 unfolding edgesIn listOf
 returns c =
@@ -128,23 +98,23 @@ edges-in-spec =
     (tie.spec
     Inv-loop
     μ-loop
-    size-requires
-    known-few-requires
+    (λ c κs. search needs)
+    (λ c κs. search needs)
     loop-holds
     met-before-requires
-    place-after-requires
+    (λ c κs. search needs)
     mul-to
     array-read-to
-    item-requires
+    (λ c κs. search needs)
     mul-edge-in
     array-read-edge-in
     edge-in-requires
-    mul-at
+    (λ c. search needs)
     array-write-at
-    add-i
-    loop-less
+    (λ c. search needs)
+    (λ c. search needs)
     loop-again
-    same-length
-    same-length-2
-    same-length-3
+    (λ c. search needs)
+    (λ c. search needs)
+    (λ c. search needs)
     returns)

@@ -16,33 +16,9 @@ Inv-loop arcs₀ edges past pastedges bound leads xs n i₀ arcs i = (i ≤ n) �
 abbrev μ-loop : tie.MeasureT-loop
 μ-loop arcs₀ edges past pastedges bound leads xs n i₀ arcs i = n - i
 
-size-requires : tie.Need-size-requires Inv-loop μ-loop
-size-requires c κs = search needs
-
 loop-holds : tie.Need-loop-holds Inv-loop μ-loop
 unfolding upTo
 loop-holds c = (search needs, (refl, refl))
-
-item-requires : tie.Need-item-requires Inv-loop μ-loop
-item-requires c κs = search needs
-
-place-after-requires : tie.Need-place-after-requires Inv-loop μ-loop
-place-after-requires c κs = search needs
-
-item-requires-2 : tie.Need-item-requires-2 Inv-loop μ-loop
-item-requires-2 c κs = search needs
-
-item-requires-3 : tie.Need-item-requires-3 Inv-loop μ-loop
-item-requires-3 c κs = search needs
-
-exterior-at-requires : tie.Need-exterior-at-requires Inv-loop μ-loop
-exterior-at-requires c κs = search needs
-
-add-i : tie.Need-add-i Inv-loop μ-loop
-add-i c = search needs
-
-loop-less : tie.Need-loop-less Inv-loop μ-loop
-loop-less c = search needs
 
 loop-again : tie.Need-loop-again Inv-loop μ-loop
 loop-again c =
@@ -50,9 +26,6 @@ loop-again c =
     let a = c .before .before .before .before .before .before .before .before .before .before .args in
     let en = c .before .before .before .before .before .before .before .before .before .size in
     (search needs, (c .before .exterior-at .kept .0 ∙ l .loop .inv .1 .0, exterior-more (a .arcs .now) (a .edges .now) (a .past .now) (a .pastedges .now) (a .bound) (listOf (a .leads)) (listOf (a .xs)) (l .loop .i) (en .result) (c .before .before .before .before .before .place-after .result) (c .before .before .before .before .before .before .item .result) (c .before .before .before .before .item2 .result) (c .before .before .item3 .result) (en .ensures) (c .before .before .before .before .before .place-after .ensures) (c .before .before .before .before .before .before .item .ensures) (c .before .before .before .before .item2 .ensures) (c .before .before .item3 .ensures) (l .loop .inv .1 .1) (c .before .exterior-at .ensures)))
-
-same-length : tie.Need-same-length Inv-loop μ-loop
-same-length c = search needs
 
 returns : tie.Need-returns Inv-loop μ-loop
 unfolding exteriorBy
@@ -66,15 +39,15 @@ exterior-spec =
     (tie.spec
     Inv-loop
     μ-loop
-    size-requires
+    (λ c κs. search needs)
     loop-holds
-    item-requires
-    place-after-requires
-    item-requires-2
-    item-requires-3
-    exterior-at-requires
-    add-i
-    loop-less
+    (λ c κs. search needs)
+    (λ c κs. search needs)
+    (λ c κs. search needs)
+    (λ c κs. search needs)
+    (λ c κs. search needs)
+    (λ c. search needs)
+    (λ c. search needs)
     loop-again
-    same-length
+    (λ c. search needs)
     returns)

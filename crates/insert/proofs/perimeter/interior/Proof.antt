@@ -18,24 +18,9 @@ Inv-loop arcs₀ face n at i₀ arcs i = (i ≤ n) × ((length arcs ≡ length a
 abbrev μ-loop : tie.MeasureT-loop
 μ-loop arcs₀ face n at i₀ arcs i = n - i
 
-size-requires : tie.Need-size-requires Inv-loop μ-loop
-size-requires c κs = search needs
-
-known-few-requires : tie.Need-known-few-requires Inv-loop μ-loop
-known-few-requires c κs = search needs
-
 loop-holds : tie.Need-loop-holds Inv-loop μ-loop
 unfolding upTo
 loop-holds c = (search needs, (refl, refl))
-
-mul-x : tie.Need-mul-x Inv-loop μ-loop
-mul-x c = search needs
-
-array-read-x : tie.Need-array-read-x Inv-loop μ-loop
-array-read-x c = search needs
-
-place-after-requires : tie.Need-place-after-requires Inv-loop μ-loop
-place-after-requires c κs = search needs
 
 mul-connect : tie.Need-mul-connect Inv-loop μ-loop
 mul-connect c =
@@ -46,18 +31,6 @@ array-read-connect : tie.Need-array-read-connect Inv-loop μ-loop
 array-read-connect c =
     let l = c .before .before .before in
     omega (arith, c .place-after .ensures, after-on (l .before .before .before .size .result) (l .loop .i) (c .before .before .loop-test .taken))
-
-connect-requires : tie.Need-connect-requires Inv-loop μ-loop
-connect-requires c κs = search needs
-
-set-face-requires : tie.Need-set-face-requires Inv-loop μ-loop
-set-face-requires c κs = search needs
-
-add-i : tie.Need-add-i Inv-loop μ-loop
-add-i c = search needs
-
-loop-less : tie.Need-loop-less Inv-loop μ-loop
-loop-less c = search needs
 
 loop-again : tie.Need-loop-again Inv-loop μ-loop
 loop-again c =
@@ -70,9 +43,6 @@ loop-again c =
     let xs = take (n .result) (a .xs .at) in
     let all : xs ≡ listOf (a .xs) = list-taken (a .xs) (n .result) (n .ensures) in
     (search needs, (c .before .set-face .kept .0 ∙ c .before .before .before .before .connect .kept .0 ∙ l .loop .inv .1 .0, interior-more (a .arcs .now) xs (a .face) (l .loop .i) (n .result) (j .result) (getD (a .xs .at) (l .loop .i) 0) (getD (a .xs .at) (j .result) 0) (n .ensures ∙ sym (ap length all)) (j .ensures) (sym (getD-take (n .result) (a .xs .at) (l .loop .i) 0 on)) (sym (getD-take (n .result) (a .xs .at) (j .result) 0 next)) (l .loop .inv .1 .1) (c .before .before .before .before .connect .ensures) (c .before .set-face .ensures)))
-
-same-length : tie.Need-same-length Inv-loop μ-loop
-same-length c = search needs
 
 returns : tie.Need-returns Inv-loop μ-loop
 unfolding interiorBy
@@ -90,18 +60,18 @@ interior-spec =
     (tie.spec
     Inv-loop
     μ-loop
-    size-requires
-    known-few-requires
+    (λ c κs. search needs)
+    (λ c κs. search needs)
     loop-holds
-    mul-x
-    array-read-x
-    place-after-requires
+    (λ c. search needs)
+    (λ c. search needs)
+    (λ c κs. search needs)
     mul-connect
     array-read-connect
-    connect-requires
-    set-face-requires
-    add-i
-    loop-less
+    (λ c κs. search needs)
+    (λ c κs. search needs)
+    (λ c. search needs)
+    (λ c. search needs)
     loop-again
-    same-length
+    (λ c. search needs)
     returns)

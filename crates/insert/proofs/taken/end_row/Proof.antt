@@ -33,23 +33,8 @@ Inv-loop row₀ k j₀ row j = (k ≤ j) × ((length row ≡ 64) × ((take k row
 abbrev μ-loop : tie.MeasureT-loop
 μ-loop row₀ k j₀ row j = 64 - j
 
-known-places-requires : tie.Need-known-places-requires Inv-loop μ-loop
-known-places-requires c κs = search needs
-
 loop-holds : tie.Need-loop-holds Inv-loop μ-loop
 loop-holds c = (search needs, (c .known-places .ensures, (refl, λ i m q. absurd (omega (arith, m, q)))))
-
-mul-row : tie.Need-mul-row Inv-loop μ-loop
-mul-row c = search needs
-
-element-write-row : tie.Need-element-write-row Inv-loop μ-loop
-element-write-row c = search needs
-
-add-j : tie.Need-add-j Inv-loop μ-loop
-add-j c = search needs
-
-loop-less : tie.Need-loop-less Inv-loop μ-loop
-loop-less c = search needs
 
 loop-again : tie.Need-loop-again Inv-loop μ-loop
 loop-again c =
@@ -73,11 +58,11 @@ end-row-spec =
     (tie.spec
     Inv-loop
     μ-loop
-    known-places-requires
+    (λ c κs. search needs)
     loop-holds
-    mul-row
-    element-write-row
-    add-j
-    loop-less
+    (λ c. search needs)
+    (λ c. search needs)
+    (λ c. search needs)
+    (λ c. search needs)
     loop-again
     returns)

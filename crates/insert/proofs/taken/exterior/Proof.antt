@@ -19,24 +19,9 @@ Inv-loop arcs₀ edges rows n at i₀ arcs i = (i ≤ n) × ((length arcs ≡ le
 abbrev μ-loop : tie.MeasureT-loop
 μ-loop arcs₀ edges rows n at i₀ arcs i = n - i
 
-size-requires : tie.Need-size-requires Inv-loop μ-loop
-size-requires c κs = search needs
-
-known-few-requires : tie.Need-known-few-requires Inv-loop μ-loop
-known-few-requires c κs = search needs
-
 loop-holds : tie.Need-loop-holds Inv-loop μ-loop
 unfolding upTo
 loop-holds c = (search needs, (refl, refl))
-
-place-after-requires : tie.Need-place-after-requires Inv-loop μ-loop
-place-after-requires c κs = search needs
-
-mul-exterior-at : tie.Need-mul-exterior-at Inv-loop μ-loop
-mul-exterior-at c = search needs
-
-array-read-exterior-at : tie.Need-array-read-exterior-at Inv-loop μ-loop
-array-read-exterior-at c = search needs
 
 exterior-at-requires : tie.Need-exterior-at-requires Inv-loop μ-loop
 exterior-at-requires c κs =
@@ -45,12 +30,6 @@ exterior-at-requires c κs =
     let s = l .before .before .before .before in
     let on : l .loop .i < n .result = c .before .before .loop-test .taken in
     (omega (arith, n .ensures, s .pre), omega (arith, c .before .place-after .ensures, after-on (n .result) (l .loop .i) on, n .ensures, s .pre))
-
-add-i : tie.Need-add-i Inv-loop μ-loop
-add-i c = search needs
-
-loop-less : tie.Need-loop-less Inv-loop μ-loop
-loop-less c = search needs
 
 loop-again : tie.Need-loop-again Inv-loop μ-loop
 loop-again c =
@@ -62,9 +41,6 @@ loop-again c =
     let xs = take (n .result) (a .xs .at) in
     let all : xs ≡ listOf (a .xs) = list-taken (a .xs) (n .result) (n .ensures) in
     (search needs, (c .before .exterior-at .kept .0 ∙ l .loop .inv .1 .0, row-more (a .arcs .now) (a .edges .now) (a .rows .now) xs (l .loop .i) (n .result) (j .result) (getD (a .xs .at) (l .loop .i) 0) (n .ensures ∙ sym (ap length all)) (j .ensures) (sym (getD-take (n .result) (a .xs .at) (l .loop .i) 0 on)) (l .loop .inv .1 .1) (c .before .exterior-at .ensures)))
-
-same-length : tie.Need-same-length Inv-loop μ-loop
-same-length c = search needs
 
 returns : tie.Need-returns Inv-loop μ-loop
 unfolding exteriorBy
@@ -82,15 +58,15 @@ exterior-spec =
     (tie.spec
     Inv-loop
     μ-loop
-    size-requires
-    known-few-requires
+    (λ c κs. search needs)
+    (λ c κs. search needs)
     loop-holds
-    place-after-requires
-    mul-exterior-at
-    array-read-exterior-at
+    (λ c κs. search needs)
+    (λ c. search needs)
+    (λ c. search needs)
     exterior-at-requires
-    add-i
-    loop-less
+    (λ c. search needs)
+    (λ c. search needs)
     loop-again
-    same-length
+    (λ c. search needs)
     returns)

@@ -6,52 +6,10 @@ use borrow.Author.Needs.{needs}
 use Rattle.insert.proofs.taken.exterior_at.Statement.{statement}
 use Rattle.insert.proofs.taken.exterior_at.Tie as tie
 
-opposite-requires : tie.Need-opposite-requires
-opposite-requires c κs = search needs
-
-cell6-requires : tie.Need-cell6-requires
-cell6-requires c κs = search needs
-
-same-length : tie.Need-same-length
-same-length c = search needs
-
 returns : tie.Need-returns
 returns c =
     let a = c .before .before .before .before .before .args in
     exterior-held (a .edges .now) (getD (a .lists .now) (a .i) []) (getD (a .lists .now) (a .j) []) (a .x) (a .arcs .now) (c .before .before .before .opposite .result) (c .before .cell6 .result) (c .before .before .before .opposite .ensures) (c .before .cell6 .ensures) (c .if1 .taken)
-
-faceless-out-requires : tie.Need-faceless-out-requires
-faceless-out-requires c κs = search needs
-
-cell6-requires-2 : tie.Need-cell6-requires-2
-cell6-requires-2 c κs = search needs
-
-opposite-requires-2 : tie.Need-opposite-requires-2
-opposite-requires-2 c κs = search needs
-
-or-else-requires : tie.Need-or-else-requires
-or-else-requires c κs = search needs
-
-faceless-in-requires : tie.Need-faceless-in-requires
-faceless-in-requires c κs = search needs
-
-cell6-requires-3 : tie.Need-cell6-requires-3
-cell6-requires-3 c κs = search needs
-
-opposite-requires-3 : tie.Need-opposite-requires-3
-opposite-requires-3 c κs = search needs
-
-or-else-requires-2 : tie.Need-or-else-requires-2
-or-else-requires-2 c κs = search needs
-
-connect-requires : tie.Need-connect-requires
-connect-requires c κs = search needs
-
-connect-requires-2 : tie.Need-connect-requires-2
-connect-requires-2 c κs = search needs
-
-same-length-2 : tie.Need-same-length-2
-same-length-2 c = search needs
 
 returns-2 : tie.Need-returns-2
 returns-2 c =
@@ -62,19 +20,19 @@ pub exterior-at-spec : {M : Type 1} → statement M
 exterior-at-spec =
     tie.close
     (tie.spec
-    opposite-requires
-    cell6-requires
-    same-length
+    (λ c κs. search needs)
+    (λ c κs. search needs)
+    (λ c. search needs)
     returns
-    faceless-out-requires
-    cell6-requires-2
-    opposite-requires-2
-    or-else-requires
-    faceless-in-requires
-    cell6-requires-3
-    opposite-requires-3
-    or-else-requires-2
-    connect-requires
-    connect-requires-2
-    same-length-2
+    (λ c κs. search needs)
+    (λ c κs. search needs)
+    (λ c κs. search needs)
+    (λ c κs. search needs)
+    (λ c κs. search needs)
+    (λ c κs. search needs)
+    (λ c κs. search needs)
+    (λ c κs. search needs)
+    (λ c κs. search needs)
+    (λ c κs. search needs)
+    (λ c. search needs)
     returns-2)

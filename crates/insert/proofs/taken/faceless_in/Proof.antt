@@ -17,47 +17,14 @@ Inv-loop arcs edges lists i j₀ j = (j ≤ 64) × (facelessIn arcs (map (opposi
 abbrev μ-loop : tie.MeasureT-loop
 μ-loop arcs edges lists i j₀ j = 64 - j
 
-mul-known-places : tie.Need-mul-known-places Inv-loop μ-loop
-mul-known-places c = search needs
-
-shared-slice-copy-out-known-places : tie.Need-shared-slice-copy-out-known-places Inv-loop μ-loop
-shared-slice-copy-out-known-places c = search needs
-
-known-places-requires : tie.Need-known-places-requires Inv-loop μ-loop
-known-places-requires c κs = search needs
-
 loop-holds : tie.Need-loop-holds Inv-loop μ-loop
 loop-holds c = (search needs, refl)
-
-mul-opposite : tie.Need-mul-opposite Inv-loop μ-loop
-mul-opposite c = search needs
-
-mul-opposite-2 : tie.Need-mul-opposite-2 Inv-loop μ-loop
-mul-opposite-2 c = search needs
-
-index-1-opposite : tie.Need-index-1-opposite Inv-loop μ-loop
-index-1-opposite c = search needs
-
-index-2-opposite : tie.Need-index-2-opposite Inv-loop μ-loop
-index-2-opposite c = search needs
-
-opposite-requires : tie.Need-opposite-requires Inv-loop μ-loop
-opposite-requires c κs = search needs
-
-cell6-requires : tie.Need-cell6-requires Inv-loop μ-loop
-cell6-requires c κs = search needs
 
 returns : tie.Need-returns Inv-loop μ-loop
 returns c =
     let l = c .before .before .before .before .before in
     let a = c .before .before .before .before .before .before .before .before .args in
     sym (l .loop .inv .1 ∙ row-found (a .arcs .now) (oppositeOf (a .arcs .now) (a .edges .now)) (getD (a .lists .now) (a .i) []) (l .loop .j) (omega (arith, c .before .before .before .before .before .before .known-places .ensures, c .before .before .before .before .loop-test .taken)) (c .before .before .opposite .result) (c .before .cell6 .result) (c .before .before .opposite .ensures) (c .before .cell6 .ensures) (c .if1 .taken))
-
-add-j : tie.Need-add-j Inv-loop μ-loop
-add-j c = search needs
-
-loop-less : tie.Need-loop-less Inv-loop μ-loop
-loop-less c = search needs
 
 loop-again : tie.Need-loop-again Inv-loop μ-loop
 loop-again c =
@@ -77,18 +44,18 @@ faceless-in-spec =
     (tie.spec
     Inv-loop
     μ-loop
-    mul-known-places
-    shared-slice-copy-out-known-places
-    known-places-requires
+    (λ c. search needs)
+    (λ c. search needs)
+    (λ c κs. search needs)
     loop-holds
-    mul-opposite
-    mul-opposite-2
-    index-1-opposite
-    index-2-opposite
-    opposite-requires
-    cell6-requires
+    (λ c. search needs)
+    (λ c. search needs)
+    (λ c. search needs)
+    (λ c. search needs)
+    (λ c κs. search needs)
+    (λ c κs. search needs)
     returns
-    add-j
-    loop-less
+    (λ c. search needs)
+    (λ c. search needs)
     loop-again
     returns-2)

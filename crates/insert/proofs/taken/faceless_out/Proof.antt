@@ -16,44 +16,14 @@ Inv-loop arcs lists i j₀ j = (j ≤ 64) × (facelessIn arcs (getD lists i []) 
 abbrev μ-loop : tie.MeasureT-loop
 μ-loop arcs lists i j₀ j = 64 - j
 
-mul-known-places : tie.Need-mul-known-places Inv-loop μ-loop
-mul-known-places c = search needs
-
-shared-slice-copy-out-known-places : tie.Need-shared-slice-copy-out-known-places Inv-loop μ-loop
-shared-slice-copy-out-known-places c = search needs
-
-known-places-requires : tie.Need-known-places-requires Inv-loop μ-loop
-known-places-requires c κs = search needs
-
 loop-holds : tie.Need-loop-holds Inv-loop μ-loop
 loop-holds c = (search needs, sym (ap (facelessIn (c .before .before .args .arcs .now)) (map-itself (getD (c .before .before .args .lists .now) (c .before .before .args .i) []))))
-
-mul-x : tie.Need-mul-x Inv-loop μ-loop
-mul-x c = search needs
-
-mul-x-2 : tie.Need-mul-x-2 Inv-loop μ-loop
-mul-x-2 c = search needs
-
-index-1-x : tie.Need-index-1-x Inv-loop μ-loop
-index-1-x c = search needs
-
-index-2-x : tie.Need-index-2-x Inv-loop μ-loop
-index-2-x c = search needs
-
-cell6-requires : tie.Need-cell6-requires Inv-loop μ-loop
-cell6-requires c κs = search needs
 
 returns : tie.Need-returns Inv-loop μ-loop
 returns c =
     let l = c .before .before .before .before in
     let a = c .before .before .before .before .before .before .before .args in
     sym (l .loop .inv .1 ∙ row-found (a .arcs .now) (λ y. y) (getD (a .lists .now) (a .i) []) (l .loop .j) (omega (arith, c .before .before .before .before .before .known-places .ensures, c .before .before .before .loop-test .taken)) (getD (getD (a .lists .now) (a .i) []) (l .loop .j) 0) (c .before .cell6 .result) refl (c .before .cell6 .ensures) (c .if1 .taken))
-
-add-j : tie.Need-add-j Inv-loop μ-loop
-add-j c = search needs
-
-loop-less : tie.Need-loop-less Inv-loop μ-loop
-loop-less c = search needs
 
 loop-again : tie.Need-loop-again Inv-loop μ-loop
 loop-again c =
@@ -73,17 +43,17 @@ faceless-out-spec =
     (tie.spec
     Inv-loop
     μ-loop
-    mul-known-places
-    shared-slice-copy-out-known-places
-    known-places-requires
+    (λ c. search needs)
+    (λ c. search needs)
+    (λ c κs. search needs)
     loop-holds
-    mul-x
-    mul-x-2
-    index-1-x
-    index-2-x
-    cell6-requires
+    (λ c. search needs)
+    (λ c. search needs)
+    (λ c. search needs)
+    (λ c. search needs)
+    (λ c κs. search needs)
     returns
-    add-j
-    loop-less
+    (λ c. search needs)
+    (λ c. search needs)
     loop-again
     returns-2)

@@ -9,17 +9,11 @@ use Rattle.insert.proofs.taken.reach_full.Tie as tie
 returns : tie.Need-returns
 returns c = (search needs, λ l. inl (c .if1 .taken))
 
-stands-from-requires : tie.Need-stands-from-requires
-stands-from-requires c κs = search needs
-
 returns-2 : tie.Need-returns-2
 returns-2 c = (search needs, λ l. inr (sym (c .before .stands-from .ensures) ∙ c .if2 .taken))
-
-add-result : tie.Need-add-result
-add-result c = search needs
 
 returns-3 : tie.Need-returns-3
 returns-3 c = (search needs, λ l. absurd (omega (arith, l)))
 
 pub reach-full-spec : {M : Type 1} → statement M
-reach-full-spec = tie.close (tie.spec returns stands-from-requires returns-2 add-result returns-3)
+reach-full-spec = tie.close (tie.spec returns (λ c κs. search needs) returns-2 (λ c. search needs) returns-3)

@@ -14,16 +14,10 @@ Inv-loop arcs edges first row₀ x₀ saved₀ k₀ row x saved k = Walking (tur
 abbrev μ-loop : tie.MeasureT-loop
 μ-loop arcs edges first row₀ x₀ saved₀ k₀ row x saved k = 64 - k
 
-known-places-requires : tie.Need-known-places-requires Inv-loop μ-loop
-known-places-requires c κs = search needs
-
 loop-holds : tie.Need-loop-holds Inv-loop μ-loop
 loop-holds c =
     let a = c .before .before .args in
     walking-start (turnIn (a .arcs .now) (a .edges .now)) (a .first) (a .row .now) (c .known-places .ensures)
-
-end-row-requires : tie.Need-end-row-requires Inv-loop μ-loop
-end-row-requires c κs = search needs
 
 returns : tie.Need-returns Inv-loop μ-loop
 unfolding listFrom
@@ -33,24 +27,6 @@ returns c =
     let a = l .before .before .before .args in
     walking-none (turnIn (a .arcs .now) (a .edges .now)) (a .first) (l .loop .row) (l .loop .k) (l .loop .x) (l .loop .saved) (l .loop .inv) (c .before .before .if1 .taken) (c .end-row .last .0) (c .end-row .ensures)
 
-mul-row : tie.Need-mul-row Inv-loop μ-loop
-mul-row c = search needs
-
-element-write-row : tie.Need-element-write-row Inv-loop μ-loop
-element-write-row c = search needs
-
-saved-at-requires : tie.Need-saved-at-requires Inv-loop μ-loop
-saved-at-requires c κs = search needs
-
-turn-requires : tie.Need-turn-requires Inv-loop μ-loop
-turn-requires c κs = search needs
-
-add-k : tie.Need-add-k Inv-loop μ-loop
-add-k c = search needs
-
-end-row-requires-2 : tie.Need-end-row-requires-2 Inv-loop μ-loop
-end-row-requires-2 c κs = search needs
-
 returns-2 : tie.Need-returns-2 Inv-loop μ-loop
 unfolding listFrom
 returns-2 c =
@@ -58,9 +34,6 @@ returns-2 c =
     let l = c .before .before .before .before .before .before .before in
     let a = l .before .before .before .args in
     walking-closed (turnIn (a .arcs .now) (a .edges .now)) (a .first) (l .loop .row) (l .loop .k) (l .loop .x) (l .loop .saved) (l .loop .inv) (c .before .before .before .before .before .before .loop-test .taken) (c .before .before .before .before .before .if1 .left) (c .before .before .before .turn .result) (c .before .before .before .turn .ensures) (c .before .before .before .before .saved-at .result) (c .before .before .before .before .saved-at .ensures) (c .before .before .if2 .taken) (c .end-row2 .last .0) (c .end-row2 .ensures)
-
-end-row-requires-3 : tie.Need-end-row-requires-3 Inv-loop μ-loop
-end-row-requires-3 c κs = search needs
 
 returns-3 : tie.Need-returns-3 Inv-loop μ-loop
 unfolding listFrom
@@ -70,17 +43,11 @@ returns-3 c =
     let a = l .before .before .before .args in
     walking-circle (turnIn (a .arcs .now) (a .edges .now)) (a .first) (l .loop .row) (l .loop .k) (l .loop .x) (l .loop .saved) (l .loop .inv) (c .before .before .before .before .before .before .before .loop-test .taken) (c .before .before .before .before .before .before .if1 .left) (c .before .before .before .before .turn .result) (c .before .before .before .before .turn .ensures) (c .before .before .before .before .before .saved-at .result) (c .before .before .before .before .before .saved-at .ensures) (c .before .before .before .if2 .left) (c .before .before .if3 .taken) (c .end-row3 .last .0) (c .end-row3 .ensures)
 
-loop-less : tie.Need-loop-less Inv-loop μ-loop
-loop-less c = search needs
-
 loop-again : tie.Need-loop-again Inv-loop μ-loop
 loop-again c =
     let l = c .before .before .before .before .before .before in
     let a = l .before .before .before .args in
     walking-on (turnIn (a .arcs .now) (a .edges .now)) (a .first) (l .loop .row) (l .loop .k) (l .loop .x) (l .loop .saved) (l .loop .inv) (c .before .before .before .before .before .loop-test .taken) (c .before .before .before .before .if1 .left) (c .before .before .turn .result) (c .before .before .turn .ensures) (c .before .before .before .saved-at .result) (c .before .before .before .saved-at .ensures) (c .before .if2 .left)
-
-reach-full-requires : tie.Need-reach-full-requires Inv-loop μ-loop
-reach-full-requires c κs = search needs
 
 returns-4 : tie.Need-returns-4 Inv-loop μ-loop
 unfolding listFrom
@@ -97,20 +64,20 @@ take-list-spec =
     (tie.spec
     Inv-loop
     μ-loop
-    known-places-requires
+    (λ c κs. search needs)
     loop-holds
-    end-row-requires
+    (λ c κs. search needs)
     returns
-    mul-row
-    element-write-row
-    saved-at-requires
-    turn-requires
-    add-k
-    end-row-requires-2
+    (λ c. search needs)
+    (λ c. search needs)
+    (λ c κs. search needs)
+    (λ c κs. search needs)
+    (λ c. search needs)
+    (λ c κs. search needs)
     returns-2
-    end-row-requires-3
+    (λ c κs. search needs)
     returns-3
-    loop-less
+    (λ c. search needs)
     loop-again
-    reach-full-requires
+    (λ c κs. search needs)
     returns-4)

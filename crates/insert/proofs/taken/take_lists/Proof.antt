@@ -18,48 +18,18 @@ Inv-loop arcs edges rows₀ n from longest₀ i₀ rows longest i = (i ≤ n) ×
 abbrev μ-loop : tie.MeasureT-loop
 μ-loop arcs edges rows₀ n from longest₀ i₀ rows longest i = n - i
 
-size-requires : tie.Need-size-requires Inv-loop μ-loop
-size-requires c κs = search needs
-
-known-few-requires : tie.Need-known-few-requires Inv-loop μ-loop
-known-few-requires c κs = search needs
-
 loop-holds : tie.Need-loop-holds Inv-loop μ-loop
 loop-holds c =
     let a = c .before .before .before .args in
     (search needs, (refl, got-none (a .arcs .now) (a .edges .now) (take (c .before .before .size .result) (a .leads .at)) (a .rows .now) 0))
-
-mul-take-list : tie.Need-mul-take-list Inv-loop μ-loop
-mul-take-list c = search needs
-
-array-read-take-list : tie.Need-array-read-take-list Inv-loop μ-loop
-array-read-take-list c = search needs
-
-mul-take-list-2 : tie.Need-mul-take-list-2 Inv-loop μ-loop
-mul-take-list-2 c = search needs
 
 index-1-take-list : tie.Need-index-1-take-list Inv-loop μ-loop
 index-1-take-list c =
     let l = c .before in
     omega (arith, l .before .before .before .before .pre, l .loop .inv .1 .0, l .before .before .known-few .ensures, l .before .before .before .size .ensures, c .loop-test .taken)
 
-take-list-requires : tie.Need-take-list-requires Inv-loop μ-loop
-take-list-requires c κs = search needs
-
-same-length : tie.Need-same-length Inv-loop μ-loop
-same-length c = search needs
-
 returns : tie.Need-returns Inv-loop μ-loop
 returns c = λ e. let z : _≡_ {A = ℕ} 0 1 = ap (λ (t : Bool). cond t 1 0) e in absurd (omega arith)
-
-greater-requires : tie.Need-greater-requires Inv-loop μ-loop
-greater-requires c κs = search needs
-
-add-i : tie.Need-add-i Inv-loop μ-loop
-add-i c = search needs
-
-loop-less : tie.Need-loop-less Inv-loop μ-loop
-loop-less c = search needs
 
 loop-again : tie.Need-loop-again Inv-loop μ-loop
 loop-again c =
@@ -77,12 +47,6 @@ loop-again c =
       ),
     )
 
-used-at-least-requires : tie.Need-used-at-least-requires Inv-loop μ-loop
-used-at-least-requires c κs = search needs
-
-same-length-2 : tie.Need-same-length-2 Inv-loop μ-loop
-same-length-2 c = search needs
-
 returns-2 : tie.Need-returns-2 Inv-loop μ-loop
 returns-2 c =
     λ whole.
@@ -99,20 +63,20 @@ take-lists-spec =
     (tie.spec
     Inv-loop
     μ-loop
-    size-requires
-    known-few-requires
+    (λ c κs. search needs)
+    (λ c κs. search needs)
     loop-holds
-    mul-take-list
-    array-read-take-list
-    mul-take-list-2
+    (λ c. search needs)
+    (λ c. search needs)
+    (λ c. search needs)
     index-1-take-list
-    take-list-requires
-    same-length
+    (λ c κs. search needs)
+    (λ c. search needs)
     returns
-    greater-requires
-    add-i
-    loop-less
+    (λ c κs. search needs)
+    (λ c. search needs)
+    (λ c. search needs)
     loop-again
-    used-at-least-requires
-    same-length-2
+    (λ c κs. search needs)
+    (λ c. search needs)
     returns-2)

@@ -19,29 +19,8 @@ Inv-loop arcs n seen₀ i₀ seen i = (i ≤ length arcs) × ((seen ≤ i) × Co
 abbrev μ-loop : tie.MeasureT-loop
 μ-loop arcs n seen₀ i₀ seen i = length arcs - i
 
-loop-holds : tie.Need-loop-holds Inv-loop μ-loop
-loop-holds c = search needs
-
 returns : tie.Need-returns Inv-loop μ-loop
 returns c = λ e. omega (arith, c .before .before .loop .inv .1 .1, c .if1 .taken)
-
-mul-if2 : tie.Need-mul-if2 Inv-loop μ-loop
-mul-if2 c = search needs
-
-index-1-if2 : tie.Need-index-1-if2 Inv-loop μ-loop
-index-1-if2 c = search needs
-
-index-2-if2 : tie.Need-index-2-if2 Inv-loop μ-loop
-index-2-if2 c = search needs
-
-add-seen : tie.Need-add-seen Inv-loop μ-loop
-add-seen c = search needs
-
-add-i : tie.Need-add-i Inv-loop μ-loop
-add-i c = search needs
-
-loop-less : tie.Need-loop-less Inv-loop μ-loop
-loop-less c = search needs
 
 loop-again : tie.Need-loop-again Inv-loop μ-loop
 loop-again c =
@@ -66,13 +45,13 @@ used-at-least-spec =
     (tie.spec
     Inv-loop
     μ-loop
-    loop-holds
+    (λ c. search needs)
     returns
-    mul-if2
-    index-1-if2
-    index-2-if2
-    add-seen
-    add-i
-    loop-less
+    (λ c. search needs)
+    (λ c. search needs)
+    (λ c. search needs)
+    (λ c. search needs)
+    (λ c. search needs)
+    (λ c. search needs)
     loop-again
     returns-2)

@@ -9,39 +9,6 @@ use Rattle.listing.proofs.Lining.{arc-text}
 use Rattle.listing.proofs.listed.arc_line.Statement.{statement}
 use Rattle.listing.proofs.listed.arc_line.Tie as tie
 
-arc-name-requires : tie.Need-arc-name-requires
-arc-name-requires c κs = search needs
-
-cell6-requires : tie.Need-cell6-requires
-cell6-requires c κs = search needs
-
-arc-name-requires-2 : tie.Need-arc-name-requires-2
-arc-name-requires-2 c κs = search needs
-
-cell6-requires-2 : tie.Need-cell6-requires-2
-cell6-requires-2 c κs = search needs
-
-arc-name-requires-3 : tie.Need-arc-name-requires-3
-arc-name-requires-3 c κs = search needs
-
-cell6-requires-3 : tie.Need-cell6-requires-3
-cell6-requires-3 c κs = search needs
-
-key-name-requires : tie.Need-key-name-requires
-key-name-requires c κs = search needs
-
-cell6-requires-4 : tie.Need-cell6-requires-4
-cell6-requires-4 c κs = search needs
-
-key-name-requires-2 : tie.Need-key-name-requires-2
-key-name-requires-2 c κs = search needs
-
-put-arc-requires : tie.Need-put-arc-requires
-put-arc-requires c κs = search needs
-
-same-length : tie.Need-same-length
-same-length c = search needs
-
 returns : tie.Need-returns
 returns c =
     let a = c .before .before .before .before .before .before .before .before .before .before .before .before .before .before .args in
@@ -59,15 +26,15 @@ pub arc-line-spec : {M : Type 1} → statement M
 arc-line-spec =
     tie.close
     (tie.spec
-    arc-name-requires
-    cell6-requires
-    arc-name-requires-2
-    cell6-requires-2
-    arc-name-requires-3
-    cell6-requires-3
-    key-name-requires
-    cell6-requires-4
-    key-name-requires-2
-    put-arc-requires
-    same-length
+    (λ c κs. search needs)
+    (λ c κs. search needs)
+    (λ c κs. search needs)
+    (λ c κs. search needs)
+    (λ c κs. search needs)
+    (λ c κs. search needs)
+    (λ c κs. search needs)
+    (λ c κs. search needs)
+    (λ c κs. search needs)
+    (λ c κs. search needs)
+    (λ c. search needs)
     returns)

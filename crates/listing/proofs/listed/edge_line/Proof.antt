@@ -9,21 +9,6 @@ use Rattle.listing.proofs.Lining.{edge-text}
 use Rattle.listing.proofs.listed.edge_line.Statement.{statement}
 use Rattle.listing.proofs.listed.edge_line.Tie as tie
 
-key-requires : tie.Need-key-requires
-key-requires c κs = search needs
-
-cell3-requires : tie.Need-cell3-requires
-cell3-requires c κs = search needs
-
-arc-name-requires : tie.Need-arc-name-requires
-arc-name-requires c κs = search needs
-
-put-edge-requires : tie.Need-put-edge-requires
-put-edge-requires c κs = search needs
-
-same-length : tie.Need-same-length
-same-length c = search needs
-
 returns : tie.Need-returns
 returns c =
     let a = c .before .before .before .before .before .before .before .before .args in
@@ -36,4 +21,4 @@ returns c =
 pub edge-line-spec : {M : Type 1} → statement M
 edge-line-spec =
     tie.close
-    (tie.spec key-requires cell3-requires arc-name-requires put-edge-requires same-length returns)
+    (tie.spec (λ c κs. search needs) (λ c κs. search needs) (λ c κs. search needs) (λ c κs. search needs) (λ c. search needs) returns)

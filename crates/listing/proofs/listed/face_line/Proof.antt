@@ -9,24 +9,6 @@ use Rattle.listing.proofs.Lining.{face-text}
 use Rattle.listing.proofs.listed.face_line.Statement.{statement}
 use Rattle.listing.proofs.listed.face_line.Tie as tie
 
-key-requires : tie.Need-key-requires
-key-requires c κs = search needs
-
-cell3-requires : tie.Need-cell3-requires
-cell3-requires c κs = search needs
-
-arc-name-requires : tie.Need-arc-name-requires
-arc-name-requires c κs = search needs
-
-cell3-requires-2 : tie.Need-cell3-requires-2
-cell3-requires-2 c κs = search needs
-
-put-face-requires : tie.Need-put-face-requires
-put-face-requires c κs = search needs
-
-same-length : tie.Need-same-length
-same-length c = search needs
-
 returns : tie.Need-returns
 returns c =
     let a = c .before .before .before .before .before .before .before .before .before .args in
@@ -40,10 +22,10 @@ pub face-line-spec : {M : Type 1} → statement M
 face-line-spec =
     tie.close
     (tie.spec
-    key-requires
-    cell3-requires
-    arc-name-requires
-    cell3-requires-2
-    put-face-requires
-    same-length
+    (λ c κs. search needs)
+    (λ c κs. search needs)
+    (λ c κs. search needs)
+    (λ c κs. search needs)
+    (λ c κs. search needs)
+    (λ c. search needs)
     returns)

@@ -46,12 +46,6 @@ put-line-requires c κs =
     omega (arith, c .before .loop-test .taken, l .loop .inv .1 .0, l .loop .inv .1 .1 .0, c .before .before .before .before .in-order .ensures .1, few (c .before .before .before .before .before .before), c .before .before .before .before .before .before .pre .1) in
     fits
 
-add-i : tie.Need-add-i Inv-loop μ-loop
-add-i c = search needs
-
-loop-less : tie.Need-loop-less Inv-loop μ-loop
-loop-less c = search needs
-
 loop-again : tie.Need-loop-again Inv-loop μ-loop
 loop-again c =
     let l = c .before .before .before .before .before in
@@ -95,8 +89,8 @@ put-records-spec =
     mul-put-line
     array-read-put-line
     put-line-requires
-    add-i
-    loop-less
+    (λ c. search needs)
+    (λ c. search needs)
     loop-again
     same-length
     returns)

@@ -9,24 +9,6 @@ use Rattle.listing.proofs.Lining.{vertex-text}
 use Rattle.listing.proofs.listed.vertex_line.Statement.{statement}
 use Rattle.listing.proofs.listed.vertex_line.Tie as tie
 
-vertex-key-requires : tie.Need-vertex-key-requires
-vertex-key-requires c κs = search needs
-
-position-at-requires : tie.Need-position-at-requires
-position-at-requires c κs = search needs
-
-cell2-requires : tie.Need-cell2-requires
-cell2-requires c κs = search needs
-
-arc-name-requires : tie.Need-arc-name-requires
-arc-name-requires c κs = search needs
-
-put-vertex-requires : tie.Need-put-vertex-requires
-put-vertex-requires c κs = search needs
-
-same-length : tie.Need-same-length
-same-length c = search needs
-
 returns : tie.Need-returns
 returns c =
     let a = c .before .before .before .before .before .before .before .before .before .args in
@@ -40,10 +22,10 @@ pub vertex-line-spec : {M : Type 1} → statement M
 vertex-line-spec =
     tie.close
     (tie.spec
-    vertex-key-requires
-    position-at-requires
-    cell2-requires
-    arc-name-requires
-    put-vertex-requires
-    same-length
+    (λ c κs. search needs)
+    (λ c κs. search needs)
+    (λ c κs. search needs)
+    (λ c κs. search needs)
+    (λ c κs. search needs)
+    (λ c. search needs)
     returns)

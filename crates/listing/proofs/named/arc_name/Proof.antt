@@ -10,18 +10,6 @@ returns : tie.Need-returns
 unfolding arcName keysIn
 returns c = rw (eq-eqb (c .before .args .x) 0 (c .if1 .taken))
 
-cell6-requires : tie.Need-cell6-requires
-cell6-requires c κs = search needs
-
-cell6-requires-2 : tie.Need-cell6-requires-2
-cell6-requires-2 c κs = search needs
-
-vertex-key-requires : tie.Need-vertex-key-requires
-vertex-key-requires c κs = search needs
-
-vertex-key-requires-2 : tie.Need-vertex-key-requires-2
-vertex-key-requires-2 c κs = search needs
-
 returns-2 : tie.Need-returns-2
 unfolding arcName keysIn
 returns-2 c = rw (ne-eqb (c .before .before .before .before .before .args .x) 0 (c .before .before .before .before .if1 .left), ← c .before .before .before .cell6 .ensures, ← c .before .before .cell62 .ensures, ← c .before .vertex-key .ensures, ← c .vertex-key2 .ensures)
@@ -31,8 +19,8 @@ arc-name-spec =
     tie.close
     (tie.spec
     returns
-    cell6-requires
-    cell6-requires-2
-    vertex-key-requires
-    vertex-key-requires-2
+    (λ c κs. search needs)
+    (λ c κs. search needs)
+    (λ c κs. search needs)
+    (λ c κs. search needs)
     returns-2)

@@ -10,12 +10,9 @@ returns : tie.Need-returns
 unfolding keyName keysIn
 returns c = rw (eq-eqb (c .before .args .l) 0 (c .if1 .taken))
 
-key-requires : tie.Need-key-requires
-key-requires c κs = search needs
-
 returns-2 : tie.Need-returns-2
 unfolding keyName keysIn
 returns-2 c = rw (ne-eqb (c .before .before .args .l) 0 (c .before .if1 .left), ← c .key .ensures)
 
 pub key-name-spec : {M : Type 1} → statement M
-key-name-spec = tie.close (tie.spec returns key-requires returns-2)
+key-name-spec = tie.close (tie.spec returns (λ c κs. search needs) returns-2)

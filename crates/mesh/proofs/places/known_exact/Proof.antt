@@ -24,21 +24,6 @@ abbrev μ-loop : tie.MeasureT-loop
 loop-holds : tie.Need-loop-holds Inv-loop μ-loop
 loop-holds c = λ j l. absurd (omega arith)
 
-mul-known-row : tie.Need-mul-known-row Inv-loop μ-loop
-mul-known-row c = search needs
-
-shared-slice-copy-out-known-row : tie.Need-shared-slice-copy-out-known-row Inv-loop μ-loop
-shared-slice-copy-out-known-row c = search needs
-
-known-row-requires : tie.Need-known-row-requires Inv-loop μ-loop
-known-row-requires c κs = search needs
-
-add-i : tie.Need-add-i Inv-loop μ-loop
-add-i c = search needs
-
-loop-less : tie.Need-loop-less Inv-loop μ-loop
-loop-less c = search needs
-
 loop-again : tie.Need-loop-again Inv-loop μ-loop
 loop-again c = λ j l. at j l (ℕ-discrete j (c .before .before .before .loop .i))
   where
@@ -56,10 +41,10 @@ known-exact-spec =
     Inv-loop
     μ-loop
     loop-holds
-    mul-known-row
-    shared-slice-copy-out-known-row
-    known-row-requires
-    add-i
-    loop-less
+    (λ c. search needs)
+    (λ c. search needs)
+    (λ c κs. search needs)
+    (λ c. search needs)
+    (λ c. search needs)
     loop-again
     returns)

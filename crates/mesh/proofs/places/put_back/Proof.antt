@@ -19,12 +19,6 @@ loop-holds c = (search needs, cleared-none (c .args .vertices .now) (c .args .po
 clear-row-requires : tie.Need-clear-row-requires Inv-loop μ-loop
 clear-row-requires c κs = (omega (arith, c .before .before .before .pre, c .before .before .loop .inv .1 .size, c .before .loop-test .taken), c .before .loop-test .taken)
 
-add-i : tie.Need-add-i Inv-loop μ-loop
-add-i c = search needs
-
-loop-less : tie.Need-loop-less Inv-loop μ-loop
-loop-less c = search needs
-
 loop-again : tie.Need-loop-again Inv-loop μ-loop
 loop-again c =
     let x = c .before .before .before .before .before .args in
@@ -48,8 +42,8 @@ put-back-spec =
     μ-loop
     loop-holds
     clear-row-requires
-    add-i
-    loop-less
+    (λ c. search needs)
+    (λ c. search needs)
     loop-again
     same-length
     returns)

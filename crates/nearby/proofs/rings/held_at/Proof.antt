@@ -9,15 +9,9 @@ use borrow.Author.Needs.{needs}
 use Rattle.nearby.proofs.rings.held_at.Statement.{statement}
 use Rattle.nearby.proofs.rings.held_at.Tie as tie
 
-cell6-requires : tie.Need-cell6-requires
-cell6-requires c κs = search needs
-
 returns : tie.Need-returns
 unfolding heldAt
 returns c = rw (eq-eqb _ _ (sym (c .before .cell6 .ensures) ∙ c .if1 .taken))
-
-cell6-requires-2 : tie.Need-cell6-requires-2
-cell6-requires-2 c κs = search needs
 
 -- the arc is in use
 in-use : (c : tie.Else1) → eqb (cell (c .before .before .args .arcs .now) (c .before .before .args .x) 0) 0 ≡ false
@@ -26,9 +20,6 @@ in-use c = ne-eqb _ _ (λ z. c .if1 .left (c .before .cell6 .ensures ∙ z))
 returns-2 : tie.Need-returns-2
 unfolding heldAt
 returns-2 c = rw (in-use (c .before .before), ne-eqb _ _ (λ z. c .if2 .taken (c .before .cell62 .ensures ∙ z)))
-
-ring-at-requires : tie.Need-ring-at-requires
-ring-at-requires c κs = search needs
 
 returns-3 : tie.Need-returns-3
 unfolding heldAt
@@ -39,4 +30,4 @@ returns-3 c =
 pub held-at-spec : {M : Type 1} → statement M
 held-at-spec =
     tie.close
-    (tie.spec cell6-requires returns cell6-requires-2 returns-2 ring-at-requires returns-3)
+    (tie.spec (λ c κs. search needs) returns (λ c κs. search needs) returns-2 (λ c κs. search needs) returns-3)

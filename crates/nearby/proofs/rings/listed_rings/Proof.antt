@@ -15,32 +15,14 @@ Inv-loop arcs list n k₀ k = (k ≤ n) × Passed (listedAt arcs (take n list)) 
 abbrev μ-loop : tie.MeasureT-loop
 μ-loop arcs list n k₀ k = n - k
 
-known-places-requires : tie.Need-known-places-requires Inv-loop μ-loop
-known-places-requires c κs = search needs
-
 loop-holds : tie.Need-loop-holds Inv-loop μ-loop
 loop-holds c = let a = c .before .before .args in (search needs, none-yet (listedAt (a .arcs .now) (take (a .n) (a .list .now))))
-
-mul-ring-at : tie.Need-mul-ring-at Inv-loop μ-loop
-mul-ring-at c = search needs
-
-element-copy-out-ring-at : tie.Need-element-copy-out-ring-at Inv-loop μ-loop
-element-copy-out-ring-at c = search needs
-
-ring-at-requires : tie.Need-ring-at-requires Inv-loop μ-loop
-ring-at-requires c κs = search needs
 
 returns : tie.Need-returns Inv-loop μ-loop
 returns c =
     let l = c .before .before .before .before in
     let a = l .before .before .before .args in
     listed-fails (a .arcs .now) (a .list .now) (a .n) (search needs) (l .loop .k) (search needs) (sym (c .before .ring-at .ensures) ∙ not-true _ (c .if1 .taken))
-
-add-k : tie.Need-add-k Inv-loop μ-loop
-add-k c = search needs
-
-loop-less : tie.Need-loop-less Inv-loop μ-loop
-loop-less c = search needs
 
 loop-again : tie.Need-loop-again Inv-loop μ-loop
 loop-again c =
@@ -60,13 +42,13 @@ listed-rings-spec =
     (tie.spec
     Inv-loop
     μ-loop
-    known-places-requires
+    (λ c κs. search needs)
     loop-holds
-    mul-ring-at
-    element-copy-out-ring-at
-    ring-at-requires
+    (λ c. search needs)
+    (λ c. search needs)
+    (λ c κs. search needs)
     returns
-    add-k
-    loop-less
+    (λ c. search needs)
+    (λ c. search needs)
     loop-again
     returns-2)

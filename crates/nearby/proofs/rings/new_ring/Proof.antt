@@ -5,18 +5,9 @@ use borrow.Author.Needs.{needs}
 use Rattle.nearby.proofs.rings.new_ring.Statement.{statement}
 use Rattle.nearby.proofs.rings.new_ring.Tie as tie
 
-array-read-if1 : tie.Need-array-read-if1
-array-read-if1 c = search needs
-
 returns : tie.Need-returns
 unfolding newRing
 returns c = rw (le-leb _ _ (c .if1 .taken))
-
-array-read-walked : tie.Need-array-read-walked
-array-read-walked c = search needs
-
-walked-requires : tie.Need-walked-requires
-walked-requires c κs = search needs
 
 returns-2 : tie.Need-returns-2
 unfolding newRing
@@ -24,4 +15,4 @@ returns-2 c = rw (lt-leb _ _ (c .before .if1 .left)) (c .walked .ensures)
 
 pub new-ring-spec : {M : Type 1} → statement M
 new-ring-spec =
-    tie.close (tie.spec array-read-if1 returns array-read-walked walked-requires returns-2)
+    tie.close (tie.spec (λ c. search needs) returns (λ c. search needs) (λ c κs. search needs) returns-2)

@@ -19,33 +19,12 @@ abbrev μ-loop : tie.MeasureT-loop
 loop-holds : tie.Need-loop-holds Inv-loop μ-loop
 loop-holds c = let a = c .args in (search needs, none-yet (newAt (a .arcs .now) (a .faces .now) (a .from)))
 
-mul-new-ring : tie.Need-mul-new-ring Inv-loop μ-loop
-mul-new-ring c = search needs
-
-shared-slice-copy-out-new-ring : tie.Need-shared-slice-copy-out-new-ring Inv-loop μ-loop
-shared-slice-copy-out-new-ring c = search needs
-
-cast-new-ring : tie.Need-cast-new-ring Inv-loop μ-loop
-cast-new-ring c = search needs
-
-add-new-ring : tie.Need-add-new-ring Inv-loop μ-loop
-add-new-ring c = search needs
-
-new-ring-requires : tie.Need-new-ring-requires Inv-loop μ-loop
-new-ring-requires c κs = search needs
-
 returns : tie.Need-returns Inv-loop μ-loop
 unfolding newRings
 returns c =
     let l = c .before .before .before .before in
     let a = l .before .args in
     one-failed (newAt (a .arcs .now) (a .faces .now) (a .from)) (length (a .faces .now)) (l .loop .i) (search needs) (sym (c .before .new-ring .ensures) ∙ not-true _ (c .if1 .taken))
-
-add-i : tie.Need-add-i Inv-loop μ-loop
-add-i c = search needs
-
-loop-less : tie.Need-loop-less Inv-loop μ-loop
-loop-less c = search needs
 
 loop-again : tie.Need-loop-again Inv-loop μ-loop
 loop-again c =
@@ -67,13 +46,13 @@ new-rings-spec =
     Inv-loop
     μ-loop
     loop-holds
-    mul-new-ring
-    shared-slice-copy-out-new-ring
-    cast-new-ring
-    add-new-ring
-    new-ring-requires
+    (λ c. search needs)
+    (λ c. search needs)
+    (λ c. search needs)
+    (λ c. search needs)
+    (λ c κs. search needs)
     returns
-    add-i
-    loop-less
+    (λ c. search needs)
+    (λ c. search needs)
     loop-again
     returns-2)

@@ -9,9 +9,6 @@ use borrow.Author.Needs.{needs}
 use Rattle.nearby.proofs.rings.ring_at.Statement.{statement}
 use Rattle.nearby.proofs.rings.ring_at.Tie as tie
 
-cell6-requires : tie.Need-cell6-requires
-cell6-requires c κs = search needs
-
 returns : tie.Need-returns
 unfolding ringAt
 returns c = rw (eq-eqb _ _ (sym (c .before .cell6 .ensures) ∙ c .if1 .taken))
@@ -19,9 +16,6 @@ returns c = rw (eq-eqb _ _ (sym (c .before .cell6 .ensures) ∙ c .if1 .taken))
 -- the arc is in use
 in-use : (c : tie.Else1) → eqb (cell (c .before .before .args .arcs .now) (c .before .before .args .x) 0) 0 ≡ false
 in-use c = ne-eqb _ _ (λ z. c .if1 .left (c .before .cell6 .ensures ∙ z))
-
-cell6-requires-2 : tie.Need-cell6-requires-2
-cell6-requires-2 c κs = search needs
 
 returns-2 : tie.Need-returns-2
 unfolding ringAt
@@ -31,12 +25,6 @@ returns-2 c =
 -- and holds a face
 holds-some : (c : tie.Else2) → eqb (cell (c .before .before .before .before .args .arcs .now) (c .before .before .before .before .args .x) 4) 0 ≡ false
 holds-some c = ne-eqb _ _ (λ z. c .if2 .left (c .before .cell62 .ensures ∙ z))
-
-cell6-requires-3 : tie.Need-cell6-requires-3
-cell6-requires-3 c κs = search needs
-
-cell6-requires-4 : tie.Need-cell6-requires-4
-cell6-requires-4 c κs = search needs
 
 -- what follows it holds another face, or the same
 follows : (c : tie.After-cell64) → cell (c .before .before .before .before .before .before .args .arcs .now) (cell (c .before .before .before .before .before .before .args .arcs .now) (c .before .before .before .before .before .before .args .x) 2) 4 ≡ c .cell64 .result
@@ -51,12 +39,6 @@ returns-3 c =
     let other = ne-eqb _ _ (λ z. c .if3 .taken (sym (follows (c .before)) ∙ z ∙ sym (k .before .cell62 .ensures))) in
     rw (in-use (k .before .before), holds-some k, other)
 
-cell6-requires-5 : tie.Need-cell6-requires-5
-cell6-requires-5 c κs = search needs
-
-cell6-requires-6 : tie.Need-cell6-requires-6
-cell6-requires-6 c κs = search needs
-
 returns-4 : tie.Need-returns-4
 unfolding ringAt
 returns-4 c =
@@ -70,13 +52,13 @@ pub ring-at-spec : {M : Type 1} → statement M
 ring-at-spec =
     tie.close
     (tie.spec
-    cell6-requires
+    (λ c κs. search needs)
     returns
-    cell6-requires-2
+    (λ c κs. search needs)
     returns-2
-    cell6-requires-3
-    cell6-requires-4
+    (λ c κs. search needs)
+    (λ c κs. search needs)
     returns-3
-    cell6-requires-5
-    cell6-requires-6
+    (λ c κs. search needs)
+    (λ c κs. search needs)
     returns-4)

@@ -15,12 +15,6 @@ Inv-loop arcs g first x₀ k₀ x k = (k ≤ 64) × (walkedFrom arcs g first 64 
 abbrev μ-loop : tie.MeasureT-loop
 μ-loop arcs g first x₀ k₀ x k = 64 - k
 
-loop-holds : tie.Need-loop-holds Inv-loop μ-loop
-loop-holds c = search needs
-
-held-at-requires : tie.Need-held-at-requires Inv-loop μ-loop
-held-at-requires c κs = search needs
-
 returns : tie.Need-returns Inv-loop μ-loop
 returns c =
     let l = c .before .before .before in
@@ -31,20 +25,11 @@ returns c =
 held : (c : tie.Else1 Inv-loop μ-loop) → heldAt (c .before .before .before .before .args .arcs .now) (c .before .before .before .before .args .g) (c .before .before .before .loop .x) ≡ true
 held c = sym (c .before .held-at .ensures) ∙ not-false _ (c .if1 .left)
 
-cell6-requires : tie.Need-cell6-requires Inv-loop μ-loop
-cell6-requires c κs = search needs
-
 returns-2 : tie.Need-returns-2 Inv-loop μ-loop
 returns-2 c =
     let l = c .before .before .before .before .before in
     let a = l .before .args in
     sym (l .loop .inv .1 ∙ walk-returns (a .arcs .now) (a .g) (a .first) (l .loop .k) (l .loop .x) (search needs) (held (c .before .before)) (sym (c .before .cell6 .ensures) ∙ c .if2 .taken))
-
-add-k : tie.Need-add-k Inv-loop μ-loop
-add-k c = search needs
-
-loop-less : tie.Need-loop-less Inv-loop μ-loop
-loop-less c = search needs
 
 loop-again : tie.Need-loop-again Inv-loop μ-loop
 loop-again c =
@@ -69,12 +54,12 @@ walked-spec =
     (tie.spec
     Inv-loop
     μ-loop
-    loop-holds
-    held-at-requires
+    (λ c. search needs)
+    (λ c κs. search needs)
     returns
-    cell6-requires
+    (λ c κs. search needs)
     returns-2
-    add-k
-    loop-less
+    (λ c. search needs)
+    (λ c. search needs)
     loop-again
     returns-3)

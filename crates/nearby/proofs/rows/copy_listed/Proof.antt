@@ -15,26 +15,8 @@ Inv-loop to₀ from list n k₀ to k = (length to ≡ length to₀) × ((length 
 abbrev μ-loop : tie.MeasureT-loop
 μ-loop to₀ from list n k₀ to k = n - k
 
-known-places-requires : tie.Need-known-places-requires Inv-loop μ-loop
-known-places-requires c κs = search needs
-
 loop-holds : tie.Need-loop-holds Inv-loop μ-loop
 loop-holds c = let a = c .before .before .args in (refl, (c .known-places .ensures, (search needs, copied-none (a .from .now) (a .to .now) (a .list .now))))
-
-mul-copy-row : tie.Need-mul-copy-row Inv-loop μ-loop
-mul-copy-row c = search needs
-
-element-copy-out-copy-row : tie.Need-element-copy-out-copy-row Inv-loop μ-loop
-element-copy-out-copy-row c = search needs
-
-copy-row-requires : tie.Need-copy-row-requires Inv-loop μ-loop
-copy-row-requires c κs = search needs
-
-add-k : tie.Need-add-k Inv-loop μ-loop
-add-k c = search needs
-
-loop-less : tie.Need-loop-less Inv-loop μ-loop
-loop-less c = search needs
 
 loop-again : tie.Need-loop-again Inv-loop μ-loop
 loop-again c =
@@ -43,9 +25,6 @@ loop-again c =
     let v = l .loop .inv in
     let row = c .before .copy-row in
     (row .kept .0 ∙ v .0, (v .1 .0, (search needs, copied-read (a .from .now) (a .to .now) (l .loop .to) (row .last .0) (a .list .now) (l .loop .k) (omega (arith, v .1 .0)) (v .1 .1 .1) (row .ensures))))
-
-same-length : tie.Need-same-length Inv-loop μ-loop
-same-length c = search needs
 
 returns : tie.Need-returns Inv-loop μ-loop
 returns c =
@@ -59,13 +38,13 @@ copy-listed-spec =
     (tie.spec
     Inv-loop
     μ-loop
-    known-places-requires
+    (λ c κs. search needs)
     loop-holds
-    mul-copy-row
-    element-copy-out-copy-row
-    copy-row-requires
-    add-k
-    loop-less
+    (λ c. search needs)
+    (λ c. search needs)
+    (λ c κs. search needs)
+    (λ c. search needs)
+    (λ c. search needs)
     loop-again
-    same-length
+    (λ c. search needs)
     returns)

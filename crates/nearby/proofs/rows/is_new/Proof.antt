@@ -3,17 +3,11 @@ use borrow.Author.Needs.{needs}
 use Rattle.nearby.proofs.rows.is_new.Statement.{statement}
 use Rattle.nearby.proofs.rows.is_new.Tie as tie
 
-array-read-if1 : tie.Need-array-read-if1
-array-read-if1 c = search needs
-
 returns : tie.Need-returns
 returns c = rw (ne-eqb _ 0 (c .if1 .taken))
-
-array-read-result : tie.Need-array-read-result
-array-read-result c = search needs
 
 returns-2 : tie.Need-returns-2
 returns-2 c = rw (eq-eqb _ 0 (c .if1 .left))
 
 pub is-new-spec : {M : Type 1} → statement M
-is-new-spec = tie.close (tie.spec array-read-if1 returns array-read-result returns-2)
+is-new-spec = tie.close (tie.spec (λ c. search needs) returns (λ c. search needs) returns-2)

@@ -18,21 +18,6 @@ abbrev μ-loop : tie.MeasureT-loop
 loop-holds : tie.Need-loop-holds Inv-loop μ-loop
 loop-holds c = below-none _
 
-mul-known6 : tie.Need-mul-known6 Inv-loop μ-loop
-mul-known6 c = search needs
-
-shared-slice-copy-out-known6 : tie.Need-shared-slice-copy-out-known6 Inv-loop μ-loop
-shared-slice-copy-out-known6 c = search needs
-
-known6-requires : tie.Need-known6-requires Inv-loop μ-loop
-known6-requires c κs = search needs
-
-add-i : tie.Need-add-i Inv-loop μ-loop
-add-i c = search needs
-
-loop-less : tie.Need-loop-less Inv-loop μ-loop
-loop-less c = search needs
-
 loop-again : tie.Need-loop-again Inv-loop μ-loop
 loop-again c = below-more _ _ (c .before .before .before .loop .inv) (c .known6 .ensures)
 
@@ -46,10 +31,10 @@ known-rows-spec =
     Inv-loop
     μ-loop
     loop-holds
-    mul-known6
-    shared-slice-copy-out-known6
-    known6-requires
-    add-i
-    loop-less
+    (λ c. search needs)
+    (λ c. search needs)
+    (λ c κs. search needs)
+    (λ c. search needs)
+    (λ c. search needs)
     loop-again
     returns)

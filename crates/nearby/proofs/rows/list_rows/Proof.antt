@@ -17,32 +17,14 @@ abbrev μ-loop : tie.MeasureT-loop
 returns : tie.Need-returns Inv-loop μ-loop
 returns c = λ q. absurd (omega arith)
 
-skip-requires : tie.Need-skip-requires Inv-loop μ-loop
-skip-requires c κs = search needs
-
 loop-holds : tie.Need-loop-holds Inv-loop μ-loop
 loop-holds c =
     let a = c .before .before .args in
     let r = c .skip in
     (r .ensures .1 .0, (omega arith, listed-run (a .arcs .now) (a .edges .now) (a .seen .now) (take 0 (a .list .now)) 0 (r .result) (r .ensures .0) (r .ensures .1 .1) (listed-none (a .arcs .now) (a .edges .now) (a .seen .now) (take 0 (a .list .now)))))
 
-add-if2 : tie.Need-add-if2 Inv-loop μ-loop
-add-if2 c = search needs
-
 returns-2 : tie.Need-returns-2 Inv-loop μ-loop
 returns-2 c = λ q. absurd (omega arith)
-
-list-row-requires : tie.Need-list-row-requires Inv-loop μ-loop
-list-row-requires c κs = search needs
-
-add-skip : tie.Need-add-skip Inv-loop μ-loop
-add-skip c = search needs
-
-skip-requires-2 : tie.Need-skip-requires-2 Inv-loop μ-loop
-skip-requires-2 c κs = search needs
-
-loop-less : tie.Need-loop-less Inv-loop μ-loop
-loop-less c = search needs
 
 loop-again : tie.Need-loop-again Inv-loop μ-loop
 loop-again c =
@@ -62,13 +44,13 @@ list-rows-spec =
     Inv-loop
     μ-loop
     returns
-    skip-requires
+    (λ c κs. search needs)
     loop-holds
-    add-if2
+    (λ c. search needs)
     returns-2
-    list-row-requires
-    add-skip
-    skip-requires-2
-    loop-less
+    (λ c κs. search needs)
+    (λ c. search needs)
+    (λ c κs. search needs)
+    (λ c. search needs)
     loop-again
     returns-3)

@@ -3,15 +3,6 @@ use borrow.Author.Needs.{needs}
 use Rattle.nearby.proofs.rows.put_back.Statement.{statement}
 use Rattle.nearby.proofs.rows.put_back.Tie as tie
 
-copy-rows-requires : tie.Need-copy-rows-requires
-copy-rows-requires c κs = search needs
-
-zero-new-requires : tie.Need-zero-new-requires
-zero-new-requires c κs = search needs
-
-same-length : tie.Need-same-length
-same-length c = search needs
-
 returns : tie.Need-returns
 returns c =
     let z = c .before .zero-new in
@@ -20,4 +11,4 @@ returns c =
     λ o u. undone o (a .arcs .now) (a .kept .now) (r .last .0) (z .last .0) (a .list .now) (a .n) (a .edges .now) (a .were .now) (r .kept .0) (r .ensures .0) (r .ensures .1) (z .ensures) u
 
 pub put-back-spec : {M : Type 1} → statement M
-put-back-spec = tie.close (tie.spec copy-rows-requires zero-new-requires same-length returns)
+put-back-spec = tie.close (tie.spec (λ c κs. search needs) (λ c κs. search needs) (λ c. search needs) returns)

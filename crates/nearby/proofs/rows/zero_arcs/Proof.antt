@@ -8,52 +8,10 @@ use borrow.Author.Needs.{needs}
 use Rattle.nearby.proofs.rows.zero_arcs.Statement.{statement}
 use Rattle.nearby.proofs.rows.zero_arcs.Tie as tie
 
-mul-is-new : tie.Need-mul-is-new
-mul-is-new c = search needs
-
-shared-slice-copy-out-is-new : tie.Need-shared-slice-copy-out-is-new
-shared-slice-copy-out-is-new c = search needs
-
-mul-is-new-2 : tie.Need-mul-is-new-2
-mul-is-new-2 c = search needs
-
-shared-slice-copy-out-is-new-2 : tie.Need-shared-slice-copy-out-is-new-2
-shared-slice-copy-out-is-new-2 c = search needs
-
-is-new-requires : tie.Need-is-new-requires
-is-new-requires c κs = search needs
-
 returns : tie.Need-returns
 returns c =
     let a = c .before .before .before .before .args in
     λ o b. (toward-same o (a .arcs .now), λ new. absurd (both (sym new ∙ sym (c .before .is-new .ensures) ∙ not-true _ (c .if1 .taken))))
-
-mul-put-row6 : tie.Need-mul-put-row6
-mul-put-row6 c = search needs
-
-index-1-put-row6 : tie.Need-index-1-put-row6
-index-1-put-row6 c = search needs
-
-index-2-put-row6 : tie.Need-index-2-put-row6
-index-2-put-row6 c = search needs
-
-put-row6-requires : tie.Need-put-row6-requires
-put-row6-requires c κs = search needs
-
-mul-put-row6-2 : tie.Need-mul-put-row6-2
-mul-put-row6-2 c = search needs
-
-index-1-put-row6-2 : tie.Need-index-1-put-row6-2
-index-1-put-row6-2 c = search needs
-
-index-2-put-row6-2 : tie.Need-index-2-put-row6-2
-index-2-put-row6-2 c = search needs
-
-put-row6-requires-2 : tie.Need-put-row6-requires-2
-put-row6-requires-2 c κs = search needs
-
-same-length : tie.Need-same-length
-same-length c = search needs
 
 returns-2 : tie.Need-returns-2
 returns-2 c =
@@ -68,19 +26,19 @@ pub zero-arcs-spec : {M : Type 1} → statement M
 zero-arcs-spec =
     tie.close
     (tie.spec
-    mul-is-new
-    shared-slice-copy-out-is-new
-    mul-is-new-2
-    shared-slice-copy-out-is-new-2
-    is-new-requires
+    (λ c. search needs)
+    (λ c. search needs)
+    (λ c. search needs)
+    (λ c. search needs)
+    (λ c κs. search needs)
     returns
-    mul-put-row6
-    index-1-put-row6
-    index-2-put-row6
-    put-row6-requires
-    mul-put-row6-2
-    index-1-put-row6-2
-    index-2-put-row6-2
-    put-row6-requires-2
-    same-length
+    (λ c. search needs)
+    (λ c. search needs)
+    (λ c. search needs)
+    (λ c κs. search needs)
+    (λ c. search needs)
+    (λ c. search needs)
+    (λ c. search needs)
+    (λ c κs. search needs)
+    (λ c. search needs)
     returns-2)

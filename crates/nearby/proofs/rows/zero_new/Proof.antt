@@ -17,24 +17,12 @@ abbrev μ-loop : tie.MeasureT-loop
 loop-holds : tie.Need-loop-holds Inv-loop μ-loop
 loop-holds c = let a = c .args in (refl, (search needs, zeroed-none (a .were .now) (a .edges .now) (a .arcs .now)))
 
-zero-arcs-requires : tie.Need-zero-arcs-requires Inv-loop μ-loop
-zero-arcs-requires c κs = search needs
-
-add-i : tie.Need-add-i Inv-loop μ-loop
-add-i c = search needs
-
-loop-less : tie.Need-loop-less Inv-loop μ-loop
-loop-less c = search needs
-
 loop-again : tie.Need-loop-again Inv-loop μ-loop
 loop-again c =
     let l = c .before .before .before .before in
     let a = l .before .args in
     let z = c .before .zero-arcs in
     (z .kept .0 ∙ l .loop .inv .0, (search needs, zeroed-more (a .were .now) (a .edges .now) (a .arcs .now) (l .loop .arcs) (z .last .0) (l .loop .i) (c .before .before .before .loop-test .taken) (l .loop .inv .1 .1) (z .ensures)))
-
-same-length : tie.Need-same-length Inv-loop μ-loop
-same-length c = search needs
 
 returns : tie.Need-returns Inv-loop μ-loop
 returns c =
@@ -48,9 +36,9 @@ zero-new-spec =
     Inv-loop
     μ-loop
     loop-holds
-    zero-arcs-requires
-    add-i
-    loop-less
+    (λ c κs. search needs)
+    (λ c. search needs)
+    (λ c. search needs)
     loop-again
-    same-length
+    (λ c. search needs)
     returns)

@@ -5,71 +5,8 @@ use borrow.Author.Needs.{needs}
 use Rattle.nearby.proofs.vertices.mark_edit.Statement.{statement}
 use Rattle.nearby.proofs.vertices.mark_edit.Tie as tie
 
-enum-told : tie.Need-enum-told
-enum-told c = search needs
-
-enum-told-2 : tie.Need-enum-told-2
-enum-told-2 c = search needs
-
 mark-keys-requires : tie.Need-mark-keys-requires
 mark-keys-requires c κs = c .before .before .before .before .pre (c .before .enum-told2 .given .0 .0) (c .before .enum-told2 .given .1)
-
-enum-known-edit : tie.Need-enum-known-edit
-enum-known-edit c = search needs
-
-mark-ring-requires : tie.Need-mark-ring-requires
-mark-ring-requires c κs = search needs
-
-enum-known-edit-2 : tie.Need-enum-known-edit-2
-enum-known-edit-2 c = search needs
-
-mark-ring-requires-2 : tie.Need-mark-ring-requires-2
-mark-ring-requires-2 c κs = search needs
-
-enum-known-edit-3 : tie.Need-enum-known-edit-3
-enum-known-edit-3 c = search needs
-
-mark-ring-requires-3 : tie.Need-mark-ring-requires-3
-mark-ring-requires-3 c κs = search needs
-
-enum-known-edit-4 : tie.Need-enum-known-edit-4
-enum-known-edit-4 c = search needs
-
-mark-ring-requires-4 : tie.Need-mark-ring-requires-4
-mark-ring-requires-4 c κs = search needs
-
-mark-ring-requires-5 : tie.Need-mark-ring-requires-5
-mark-ring-requires-5 c κs = search needs
-
-enum-known-edit-5 : tie.Need-enum-known-edit-5
-enum-known-edit-5 c = search needs
-
-mark-ring-requires-6 : tie.Need-mark-ring-requires-6
-mark-ring-requires-6 c κs = search needs
-
-enum-known-edit-6 : tie.Need-enum-known-edit-6
-enum-known-edit-6 c = search needs
-
-mark-key-requires : tie.Need-mark-key-requires
-mark-key-requires c κs = search needs
-
-mark-key-requires-2 : tie.Need-mark-key-requires-2
-mark-key-requires-2 c κs = search needs
-
-mark-key-requires-3 : tie.Need-mark-key-requires-3
-mark-key-requires-3 c κs = search needs
-
-mark-key-requires-4 : tie.Need-mark-key-requires-4
-mark-key-requires-4 c κs = search needs
-
-enum-known-edit-7 : tie.Need-enum-known-edit-7
-enum-known-edit-7 c = search needs
-
-mark-key-requires-5 : tie.Need-mark-key-requires-5
-mark-key-requires-5 c κs = search needs
-
-mark-key-requires-6 : tie.Need-mark-key-requires-6
-mark-key-requires-6 c κs = search needs
 
 returns : tie.Need-returns
 unfolding among
@@ -114,28 +51,28 @@ pub mark-edit-spec : {M : Type 1} → statement M
 mark-edit-spec =
     tie.close
     (tie.spec
-    enum-told
-    enum-told-2
+    (λ c. search needs)
+    (λ c. search needs)
     mark-keys-requires
-    enum-known-edit
-    mark-ring-requires
-    enum-known-edit-2
-    mark-ring-requires-2
-    enum-known-edit-3
-    mark-ring-requires-3
-    enum-known-edit-4
-    mark-ring-requires-4
-    mark-ring-requires-5
-    enum-known-edit-5
-    mark-ring-requires-6
-    enum-known-edit-6
-    mark-key-requires
-    mark-key-requires-2
-    mark-key-requires-3
-    mark-key-requires-4
-    enum-known-edit-7
-    mark-key-requires-5
-    mark-key-requires-6
+    (λ c. search needs)
+    (λ c κs. search needs)
+    (λ c. search needs)
+    (λ c κs. search needs)
+    (λ c. search needs)
+    (λ c κs. search needs)
+    (λ c. search needs)
+    (λ c κs. search needs)
+    (λ c κs. search needs)
+    (λ c. search needs)
+    (λ c κs. search needs)
+    (λ c. search needs)
+    (λ c κs. search needs)
+    (λ c κs. search needs)
+    (λ c κs. search needs)
+    (λ c κs. search needs)
+    (λ c. search needs)
+    (λ c κs. search needs)
+    (λ c κs. search needs)
     returns
     returns-2
     returns-3

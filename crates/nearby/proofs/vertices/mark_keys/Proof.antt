@@ -4,18 +4,6 @@ use borrow.Author.Needs.{needs}
 use Rattle.nearby.proofs.vertices.mark_keys.Statement.{statement}
 use Rattle.nearby.proofs.vertices.mark_keys.Tie as tie
 
-known-marks-requires : tie.Need-known-marks-requires
-known-marks-requires c κs = search needs
-
-from-keys-requires : tie.Need-from-keys-requires
-from-keys-requires c κs = search needs
-
-vertices-by-keys-requires : tie.Need-vertices-by-keys-requires
-vertices-by-keys-requires c κs = search needs
-
-mark-requires : tie.Need-mark-requires
-mark-requires c κs = search needs
-
 returns : tie.Need-returns
 returns c = λ p a e f k.
     let s = c .before .before .before .before .before .before .before .args in
@@ -25,8 +13,8 @@ pub mark-keys-spec : {M : Type 1} → statement M
 mark-keys-spec =
     tie.close
     (tie.spec
-    known-marks-requires
-    from-keys-requires
-    vertices-by-keys-requires
-    mark-requires
+    (λ c κs. search needs)
+    (λ c κs. search needs)
+    (λ c κs. search needs)
+    (λ c κs. search needs)
     returns)

@@ -8,18 +8,6 @@ use borrow.Author.Needs.{needs}
 use Rattle.nearby.proofs.vertices.mark_ring.Statement.{statement}
 use Rattle.nearby.proofs.vertices.mark_ring.Tie as tie
 
-known-marks-requires : tie.Need-known-marks-requires
-known-marks-requires c κs = search needs
-
-find-key3-requires : tie.Need-find-key3-requires
-find-key3-requires c κs = search needs
-
-vertices-of-requires : tie.Need-vertices-of-requires
-vertices-of-requires c κs = search needs
-
-mark-requires : tie.Need-mark-requires
-mark-requires c κs = search needs
-
 returns : tie.Need-returns
 returns c = λ v p e k.
     let s = c .before .before .before .before .before .before .args in
@@ -31,4 +19,4 @@ returns c = λ v p e k.
 pub mark-ring-spec : {M : Type 1} → statement M
 mark-ring-spec =
     tie.close
-    (tie.spec known-marks-requires find-key3-requires vertices-of-requires mark-requires returns)
+    (tie.spec (λ c κs. search needs) (λ c κs. search needs) (λ c κs. search needs) (λ c κs. search needs) returns)

@@ -4,29 +4,8 @@ use borrow.Author.Needs.{needs}
 use Rattle.order.proofs.back.keep.Statement.{statement}
 use Rattle.order.proofs.back.keep.Tie as tie
 
-copy2-requires : tie.Need-copy2-requires
-copy2-requires c κs = search needs
-
 copy-rows-requires : tie.Need-copy-rows-requires
 copy-rows-requires c κs = sym (c .before .before .before .before .pre .arcs)
-
-copy3-requires : tie.Need-copy3-requires
-copy3-requires c κs = search needs
-
-copy3-requires-2 : tie.Need-copy3-requires-2
-copy3-requires-2 c κs = search needs
-
-same-length : tie.Need-same-length
-same-length c = search needs
-
-same-length-2 : tie.Need-same-length-2
-same-length-2 c = search needs
-
-same-length-3 : tie.Need-same-length-3
-same-length-3 c = search needs
-
-same-length-4 : tie.Need-same-length-4
-same-length-4 c = search needs
 
 returns : tie.Need-returns
 returns c =
@@ -45,12 +24,12 @@ pub keep-spec : {M : Type 1} → statement M
 keep-spec =
     tie.close
     (tie.spec
-    copy2-requires
+    (λ c κs. search needs)
     copy-rows-requires
-    copy3-requires
-    copy3-requires-2
-    same-length
-    same-length-2
-    same-length-3
-    same-length-4
+    (λ c κs. search needs)
+    (λ c κs. search needs)
+    (λ c. search needs)
+    (λ c. search needs)
+    (λ c. search needs)
+    (λ c. search needs)
     returns)

@@ -9,27 +9,6 @@ use Rattle.order.proofs.back.put_back.Tie as tie
 put-back-requires : tie.Need-put-back-requires
 put-back-requires c κs = let z = c .before .before .pre in (z .arcs, z .edges)
 
-copy2-requires : tie.Need-copy2-requires
-copy2-requires c κs = search needs
-
-copy3-requires : tie.Need-copy3-requires
-copy3-requires c κs = search needs
-
-copy3-requires-2 : tie.Need-copy3-requires-2
-copy3-requires-2 c κs = search needs
-
-same-length : tie.Need-same-length
-same-length c = search needs
-
-same-length-2 : tie.Need-same-length-2
-same-length-2 c = search needs
-
-same-length-3 : tie.Need-same-length-3
-same-length-3 c = search needs
-
-same-length-4 : tie.Need-same-length-4
-same-length-4 c = search needs
-
 returns : tie.Need-returns
 returns c o h =
     let x = c .before .before .before .before .before .before .before .before .before .before .before .before .before .args in
@@ -44,11 +23,11 @@ put-back-spec =
     tie.close
     (tie.spec
     put-back-requires
-    copy2-requires
-    copy3-requires
-    copy3-requires-2
-    same-length
-    same-length-2
-    same-length-3
-    same-length-4
+    (λ c κs. search needs)
+    (λ c κs. search needs)
+    (λ c κs. search needs)
+    (λ c. search needs)
+    (λ c. search needs)
+    (λ c. search needs)
+    (λ c. search needs)
     returns)

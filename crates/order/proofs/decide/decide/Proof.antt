@@ -10,19 +10,10 @@ use borrow.Author.Needs.{needs}
 use Rattle.order.proofs.decide.decide.Statement.{statement}
 use Rattle.order.proofs.decide.decide.Tie as tie
 
-given-requires : tie.Need-given-requires
-given-requires c κs = search needs
-
 returns : tie.Need-returns
 returns c =
     let x = c .before .before .before .args in
     not-given (mesh (x .vertices .now) (x .positions .now) (x .arcs .now) (x .edges .now) (x .faces .now) (x .counters .now)) (x .edit) (x .keys .now) (sym (c .before .given .ensures) ∙ not-true _ (c .if1 .taken))
-
-checks-of-requires : tie.Need-checks-of-requires
-checks-of-requires c κs = search needs
-
-accepted-requires : tie.Need-accepted-requires
-accepted-requires c κs = search needs
 
 returns-2 : tie.Need-returns-2
 returns-2 c =
@@ -31,17 +22,11 @@ returns-2 c =
     (c .before .before .checks-of .ensures (given-few (x .edit) (x .keys .now) (sym (c .before .before .before .before .given .ensures) ∙ not-false _ (c .before .before .before .if1 .left))) (x .positions .now) (x .edges .now) (x .counters .now))
     (sym (c .before .accepted .ensures) ∙ not-true _ (c .if2 .taken))
 
-moves-finite-requires : tie.Need-moves-finite-requires
-moves-finite-requires c κs = search needs
-
 returns-3 : tie.Need-returns-3
 returns-3 c =
     let x = c .before .before .before .before .before .before .before .before .args in
     not-moves (mesh (x .vertices .now) (x .positions .now) (x .arcs .now) (x .edges .now) (x .faces .now) (x .counters .now)) (x .edit) (x .keys .now) (sym (c .before .before .before .before .before .before .given .ensures) ∙ not-false _ (c .before .before .before .before .before .if1 .left)) (c .before .before .before .before .checks-of .result) (c .before .before .before .before .checks-of .ensures (given-few (x .edit) (x .keys .now) (sym (c .before .before .before .before .before .before .given .ensures) ∙ not-false _ (c .before .before .before .before .before .if1 .left))) (x .positions .now) (x .edges .now) (x .counters .now)) (sym (c .before .before .before .accepted .ensures) ∙ not-false _ (c .before .before .if2 .left))
     (sym (c .before .moves-finite .ensures (x .edges .now) (x .counters .now)) ∙ not-true _ (c .if3 .taken))
-
-has-room-requires : tie.Need-has-room-requires
-has-room-requires c κs = search needs
 
 returns-4 : tie.Need-returns-4
 returns-4 c =
@@ -61,13 +46,13 @@ pub decide-spec : {M : Type 1} → statement M
 decide-spec =
     tie.close
     (tie.spec
-    given-requires
+    (λ c κs. search needs)
     returns
-    checks-of-requires
-    accepted-requires
+    (λ c κs. search needs)
+    (λ c κs. search needs)
     returns-2
-    moves-finite-requires
+    (λ c κs. search needs)
     returns-3
-    has-room-requires
+    (λ c κs. search needs)
     returns-4
     returns-5)

@@ -7,12 +7,6 @@ use Rattle.rules.specs.Mesh.{mesh}
 use Rattle.rules.specs.Call.{roomFor, need, needs as needsOf}
 use Rattle.checks.proofs.Most.{room-for-less}
 
-most-of-requires : tie.Need-most-of-requires
-most-of-requires c κs = search needs
-
-room-for-requires : tie.Need-room-for-requires
-room-for-requires c κs = search needs
-
 returns : tie.Need-returns
 returns c =
     let x = c .before .before .before .before .args in
@@ -21,12 +15,6 @@ returns c =
     let m = mesh (x .vertices .now) ps (x .arcs .now) (x .edges .now) (x .faces .now) (x .counters .now) in
     let most = c .before .before .most-of .ensures (x .vertices .now) ps (x .edges .now) (x .counters .now) in
     sym (room-for-less m (need m (x .edit) (x .keys .now)) (needsOf (k .vertices) (k .edges) (k .faces) (k .facekeys)) (most .1) (sym (c .before .room-for .ensures ps (x .arcs .now)) ∙ c .if1 .taken))
-
-need-of-requires : tie.Need-need-of-requires
-need-of-requires c κs = search needs
-
-room-for-requires-2 : tie.Need-room-for-requires-2
-room-for-requires-2 c κs = search needs
 
 returns-2 : tie.Need-returns-2
 returns-2 c =
@@ -39,9 +27,9 @@ pub has-room-spec : {M : Type 1} → statement M
 has-room-spec =
     tie.close
     (tie.spec
-    most-of-requires
-    room-for-requires
+    (λ c κs. search needs)
+    (λ c κs. search needs)
     returns
-    need-of-requires
-    room-for-requires-2
+    (λ c κs. search needs)
+    (λ c κs. search needs)
     returns-2)

@@ -8,25 +8,16 @@ use borrow.Author.Needs.{needs}
 use Rattle.order.proofs.decide.is_ready.Statement.{statement}
 use Rattle.order.proofs.decide.is_ready.Tie as tie
 
-room-enough-requires : tie.Need-room-enough-requires
-room-enough-requires c κs = search needs
-
 returns : tie.Need-returns
 returns c =
     let x = c .before .before .args in
     one-short (mesh (x .vertices .now) (x .positions .now) (x .arcs .now) (x .edges .now) (x .faces .now) (x .counters .now)) (room (x .v1 .now) (x .p1 .now) (x .a1 .now) (x .e1 .now) (x .f1 .now)) (room (x .v2 .now) (x .p2 .now) (x .a2 .now) (x .e2 .now) (x .f2 .now)) (sym (c .before .room-enough .ensures (x .counters .now)) ∙ not-true _ (c .if1 .taken))
-
-room-enough-requires-2 : tie.Need-room-enough-requires-2
-room-enough-requires-2 c κs = search needs
 
 returns-2 : tie.Need-returns-2
 returns-2 c =
     let x = c .before .before .before .before .args in
     two-short (mesh (x .vertices .now) (x .positions .now) (x .arcs .now) (x .edges .now) (x .faces .now) (x .counters .now)) (room (x .v1 .now) (x .p1 .now) (x .a1 .now) (x .e1 .now) (x .f1 .now)) (room (x .v2 .now) (x .p2 .now) (x .a2 .now) (x .e2 .now) (x .f2 .now)) (sym (c .before .before .before .room-enough .ensures (x .counters .now)) ∙ not-false _ (c .before .before .if1 .left))
     (sym (c .before .room-enough2 .ensures (x .counters .now)) ∙ not-true _ (c .if2 .taken))
-
-is-sound-requires : tie.Need-is-sound-requires
-is-sound-requires c κs = search needs
 
 returns-3 : tie.Need-returns-3
 returns-3 c =
@@ -39,9 +30,9 @@ pub is-ready-spec : {M : Type 1} → statement M
 is-ready-spec =
     tie.close
     (tie.spec
-    room-enough-requires
+    (λ c κs. search needs)
     returns
-    room-enough-requires-2
+    (λ c κs. search needs)
     returns-2
-    is-sound-requires
+    (λ c κs. search needs)
     returns-3)

@@ -7,9 +7,6 @@ use borrow.Author.Needs.{needs}
 use Rattle.order.proofs.settle.judged.Statement.{statement}
 use Rattle.order.proofs.settle.judged.Tie as tie
 
-accepted-requires : tie.Need-accepted-requires
-accepted-requires c κs = search needs
-
 returns : tie.Need-returns
 returns c =
     let x = c .before .before .args in
@@ -30,4 +27,4 @@ returns-3 c =
 
 pub judged-spec : {M : Type 1} → statement M
 judged-spec =
-    tie.close (tie.spec accepted-requires returns sound-after-requires returns-2 returns-3)
+    tie.close (tie.spec (λ c κs. search needs) returns sound-after-requires returns-2 returns-3)

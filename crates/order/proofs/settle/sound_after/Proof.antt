@@ -5,12 +5,6 @@ use borrow.Author.Needs.{needs}
 use Rattle.order.proofs.settle.sound_after.Statement.{statement}
 use Rattle.order.proofs.settle.sound_after.Tie as tie
 
-is-sound-requires : tie.Need-is-sound-requires
-is-sound-requires c κs = search needs
-
-returns : tie.Need-returns
-returns c = search needs
-
 rings-hold-requires : tie.Need-rings-hold-requires
 rings-hold-requires c κs = let few : c .before .args .n ≤ 2048 = omega arith in (few, c .before .pre few .0)
 
@@ -18,4 +12,4 @@ returns-2 : tie.Need-returns-2
 returns-2 c = let few : c .before .before .args .n ≤ 2048 = omega arith in c .rings-hold .ensures ∙ c .before .before .pre few .1
 
 pub sound-after-spec : {M : Type 1} → statement M
-sound-after-spec = tie.close (tie.spec is-sound-requires returns rings-hold-requires returns-2)
+sound-after-spec = tie.close (tie.spec (λ c κs. search needs) (λ c. search needs) rings-hold-requires returns-2)

@@ -5,12 +5,6 @@ use borrow.Author.Needs.{needs}
 use Rattle.pairs.proofs.marked.skip.Statement.{statement}
 use Rattle.pairs.proofs.marked.skip.Tie as tie
 
-skip-blocks-requires : tie.Need-skip-blocks-requires
-skip-blocks-requires c κs = search needs
-
-skip-rows-requires : tie.Need-skip-rows-requires
-skip-rows-requires c κs = search needs
-
 returns : tie.Need-returns
 returns c =
     let b = c .before .skip-blocks in
@@ -19,4 +13,4 @@ returns c =
     (omega (arith, b .ensures .0, r .ensures .0), (r .ensures .1 .0, join-runs _ (a .from) (b .result) (r .result) (b .ensures .1 .1) (r .ensures .1 .1)))
 
 pub skip-spec : {M : Type 1} → statement M
-skip-spec = tie.close (tie.spec skip-blocks-requires skip-rows-requires returns)
+skip-spec = tie.close (tie.spec (λ c κs. search needs) (λ c κs. search needs) returns)

@@ -22,35 +22,11 @@ Inv-loop seen n at i₀ i = (i ≤ n) × ((k : ℕ) → k < i → isMarked seen 
 abbrev μ-loop : tie.MeasureT-loop
 μ-loop seen n at i₀ i = n - i
 
-size-requires : tie.Need-size-requires Inv-loop μ-loop
-size-requires c κs = search needs
-
-known-few-requires : tie.Need-known-few-requires Inv-loop μ-loop
-known-few-requires c κs = search needs
-
 loop-holds : tie.Need-loop-holds Inv-loop μ-loop
 loop-holds c = (search needs, below-none _)
 
-mul-wide : tie.Need-mul-wide Inv-loop μ-loop
-mul-wide c = search needs
-
-array-read-wide : tie.Need-array-read-wide Inv-loop μ-loop
-array-read-wide c = search needs
-
-wide-requires : tie.Need-wide-requires Inv-loop μ-loop
-wide-requires c κs = search needs
-
-element-copy-out-if1 : tie.Need-element-copy-out-if1 Inv-loop μ-loop
-element-copy-out-if1 c = search needs
-
 returns : tie.Need-returns Inv-loop μ-loop
 returns c = λ e. absurd (both (sym e))
-
-add-i : tie.Need-add-i Inv-loop μ-loop
-add-i c = search needs
-
-loop-less : tie.Need-loop-less Inv-loop μ-loop
-loop-less c = search needs
 
 loop-again : tie.Need-loop-again Inv-loop μ-loop
 loop-again c =
@@ -72,15 +48,15 @@ all-marked-spec =
     (tie.spec
     Inv-loop
     μ-loop
-    size-requires
-    known-few-requires
+    (λ c κs. search needs)
+    (λ c κs. search needs)
     loop-holds
-    mul-wide
-    array-read-wide
-    wide-requires
-    element-copy-out-if1
+    (λ c. search needs)
+    (λ c. search needs)
+    (λ c κs. search needs)
+    (λ c. search needs)
     returns
-    add-i
-    loop-less
+    (λ c. search needs)
+    (λ c. search needs)
     loop-again
     returns-2)

@@ -8,15 +8,6 @@ use borrow.Author.Needs.{needs}
 use Rattle.pairs.proofs.near.arc_between_near.Statement.{statement}
 use Rattle.pairs.proofs.near.arc_between_near.Tie as tie
 
-tells-requires : tie.Need-tells-requires
-tells-requires c κs = search needs
-
-wide-requires : tie.Need-wide-requires
-wide-requires c κs = search needs
-
-element-copy-out-if2 : tie.Need-element-copy-out-if2
-element-copy-out-if2 c = search needs
-
 arc-listed-requires : tie.Need-arc-listed-requires
 arc-listed-requires c κs =
     let s = c .before .before .before .before .before in
@@ -29,9 +20,6 @@ arc-listed-requires c κs =
 returns : tie.Need-returns
 returns c = c .arc-listed .ensures
 
-find-arc-requires : tie.Need-find-arc-requires
-find-arc-requires c κs = search needs
-
 returns-2 : tie.Need-returns-2
 returns-2 c = c .find-arc .ensures
 
@@ -39,10 +27,10 @@ pub arc-between-near-spec : {M : Type 1} → statement M
 arc-between-near-spec =
     tie.close
     (tie.spec
-    tells-requires
-    wide-requires
-    element-copy-out-if2
+    (λ c κs. search needs)
+    (λ c κs. search needs)
+    (λ c. search needs)
     arc-listed-requires
     returns
-    find-arc-requires
+    (λ c κs. search needs)
     returns-2)

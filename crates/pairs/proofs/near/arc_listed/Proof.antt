@@ -28,15 +28,6 @@ arc-chained-requires c κs =
 loop-holds : tie.Need-loop-holds Inv-loop μ-loop
 loop-holds c = (c .before .before .pre .1 .1 .0 .0, c .arc-chained .ensures .1 (c .before .if1 .left))
 
-mul-x : tie.Need-mul-x Inv-loop μ-loop
-mul-x c = search needs
-
-element-copy-out-x : tie.Need-element-copy-out-x Inv-loop μ-loop
-element-copy-out-x c = search needs
-
-ended-requires : tie.Need-ended-requires Inv-loop μ-loop
-ended-requires c κs = search needs
-
 returns-2 : tie.Need-returns-2 Inv-loop μ-loop
 returns-2 c =
     let l = c .before .before .before .before in
@@ -45,15 +36,6 @@ returns-2 c =
     let end = c .before .ended .ensures (c .if2 .taken) in
     let all = all-early (a .arcs .now) (a .near .now) (a .n) (a .used) (l .loop .k) (a .a) (s .pre .1 .1 .1 .0) (end .0) (c .before .before .before .loop-test .taken) (end .1) (s .pre .1 .1 .1 .1) in
     least-is (a .arcs .now) (a .a) (a .b) (take (l .loop .k) (a .near .now)) (l .loop .m) (l .before .before .if1 .left) (s .pre .1 .0) all (l .loop .inv .1)
-
-lesser-requires : tie.Need-lesser-requires Inv-loop μ-loop
-lesser-requires c κs = search needs
-
-add-k : tie.Need-add-k Inv-loop μ-loop
-add-k c = search needs
-
-loop-less : tie.Need-loop-less Inv-loop μ-loop
-loop-less c = search needs
 
 loop-again : tie.Need-loop-again Inv-loop μ-loop
 loop-again c =
@@ -79,12 +61,12 @@ arc-listed-spec =
     returns
     arc-chained-requires
     loop-holds
-    mul-x
-    element-copy-out-x
-    ended-requires
+    (λ c. search needs)
+    (λ c. search needs)
+    (λ c κs. search needs)
     returns-2
-    lesser-requires
-    add-k
-    loop-less
+    (λ c κs. search needs)
+    (λ c. search needs)
+    (λ c. search needs)
     loop-again
     returns-3)

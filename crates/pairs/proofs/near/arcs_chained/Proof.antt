@@ -20,32 +20,8 @@ loop-holds c =
     let a = c .args in
     (search needs, sought-start (a .arcs .now) (a .from .now) (a .to .now) (a .n) (take (a .chained) (a .near .now)))
 
-mul-arc-chained : tie.Need-mul-arc-chained Inv-loop μ-loop
-mul-arc-chained c = search needs
-
-element-copy-out-arc-chained : tie.Need-element-copy-out-arc-chained Inv-loop μ-loop
-element-copy-out-arc-chained c = search needs
-
-mul-arc-chained-2 : tie.Need-mul-arc-chained-2 Inv-loop μ-loop
-mul-arc-chained-2 c = search needs
-
-element-copy-out-arc-chained-2 : tie.Need-element-copy-out-arc-chained-2 Inv-loop μ-loop
-element-copy-out-arc-chained-2 c = search needs
-
 arc-chained-requires : tie.Need-arc-chained-requires Inv-loop μ-loop
 arc-chained-requires c κs = c .before .before .before .before .pre .1
-
-mul-at : tie.Need-mul-at Inv-loop μ-loop
-mul-at c = search needs
-
-array-write-at : tie.Need-array-write-at Inv-loop μ-loop
-array-write-at c = search needs
-
-add-i : tie.Need-add-i Inv-loop μ-loop
-add-i c = search needs
-
-loop-less : tie.Need-loop-less Inv-loop μ-loop
-loop-less c = search needs
 
 loop-again : tie.Need-loop-again Inv-loop μ-loop
 loop-again c =
@@ -67,14 +43,14 @@ arcs-chained-spec =
     Inv-loop
     μ-loop
     loop-holds
-    mul-arc-chained
-    element-copy-out-arc-chained
-    mul-arc-chained-2
-    element-copy-out-arc-chained-2
+    (λ c. search needs)
+    (λ c. search needs)
+    (λ c. search needs)
+    (λ c. search needs)
     arc-chained-requires
-    mul-at
-    array-write-at
-    add-i
-    loop-less
+    (λ c. search needs)
+    (λ c. search needs)
+    (λ c. search needs)
+    (λ c. search needs)
     loop-again
     returns)

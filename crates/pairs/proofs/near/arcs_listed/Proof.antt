@@ -20,18 +20,6 @@ Inv-loop arcs near n used chained size from to seen at₀ k₀ at k = (k ≤ n) 
 abbrev μ-loop : tie.MeasureT-loop
 μ-loop arcs near n used chained size from to seen at₀ k₀ at k = n - k
 
-size-requires : tie.Need-size-requires Inv-loop μ-loop
-size-requires c κs = search needs
-
-known-few-requires : tie.Need-known-few-requires Inv-loop μ-loop
-known-few-requires c κs = search needs
-
-ends-requires : tie.Need-ends-requires Inv-loop μ-loop
-ends-requires c κs = search needs
-
-mark-requires : tie.Need-mark-requires Inv-loop μ-loop
-mark-requires c κs = search needs
-
 arcs-chained-requires : tie.Need-arcs-chained-requires Inv-loop μ-loop
 arcs-chained-requires c κs =
     let k = c .before .before .before .before .before .before in
@@ -40,15 +28,6 @@ arcs-chained-requires c κs =
 
 loop-holds : tie.Need-loop-holds Inv-loop μ-loop
 loop-holds c = (c .before .before .before .before .before .before .before .before .before .pre .1 .1 .0 .0, c .arcs-chained .ensures)
-
-mul-x : tie.Need-mul-x Inv-loop μ-loop
-mul-x c = search needs
-
-element-copy-out-x : tie.Need-element-copy-out-x Inv-loop μ-loop
-element-copy-out-x c = search needs
-
-cell6-requires : tie.Need-cell6-requires Inv-loop μ-loop
-cell6-requires c κs = search needs
 
 returns : tie.Need-returns Inv-loop μ-loop
 returns c =
@@ -62,25 +41,10 @@ returns c =
     let unused = sym (c .before .before .cell6 .ensures) ∙ c .before .if1 .taken in
     sought-end arcs (a .per .at) (e .ends .result) (size .result) (listOf (a .per)) (size .ensures) (item-is (a .per)) (e .ends .ensures) (take (l .loop .k) (a .near .now)) (l .loop .at) (k .known-few .ensures) (s .pre .1 .0) (λ i q. all-early arcs (a .near .now) (a .n) (a .used) (l .loop .k) (getD (listOf (a .per)) i 0) (s .pre .1 .1 .1 .0) (c .if2 .taken) (c .before .before .before .before .loop-test .taken) unused (s .pre .1 .1 .1 .1 i q)) (l .loop .inv .1)
 
-wide-requires : tie.Need-wide-requires Inv-loop μ-loop
-wide-requires c κs = search needs
-
-array-read-if3 : tie.Need-array-read-if3 Inv-loop μ-loop
-array-read-if3 c = search needs
-
-cell6-requires-2 : tie.Need-cell6-requires-2 Inv-loop μ-loop
-cell6-requires-2 c κs = search needs
-
 note-listed-requires : tie.Need-note-listed-requires Inv-loop μ-loop
 note-listed-requires c κs =
     let k = c .before .before .before .before .before .before .before .before .before .before .before .before .before .before .before .before .before .before in
     omega (arith, k .known-few .ensures, k .before .size .ensures)
-
-add-k : tie.Need-add-k Inv-loop μ-loop
-add-k c = search needs
-
-loop-less : tie.Need-loop-less Inv-loop μ-loop
-loop-less c = search needs
 
 loop-again : tie.Need-loop-again Inv-loop μ-loop
 unfolding marksOf
@@ -123,21 +87,21 @@ arcs-listed-spec =
     (tie.spec
     Inv-loop
     μ-loop
-    size-requires
-    known-few-requires
-    ends-requires
-    mark-requires
+    (λ c κs. search needs)
+    (λ c κs. search needs)
+    (λ c κs. search needs)
+    (λ c κs. search needs)
     arcs-chained-requires
     loop-holds
-    mul-x
-    element-copy-out-x
-    cell6-requires
+    (λ c. search needs)
+    (λ c. search needs)
+    (λ c κs. search needs)
     returns
-    wide-requires
-    array-read-if3
-    cell6-requires-2
+    (λ c κs. search needs)
+    (λ c. search needs)
+    (λ c κs. search needs)
     note-listed-requires
-    add-k
-    loop-less
+    (λ c. search needs)
+    (λ c. search needs)
     loop-again
     returns-2)

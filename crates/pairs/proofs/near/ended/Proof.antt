@@ -9,11 +9,8 @@ use Rattle.pairs.proofs.near.ended.Tie as tie
 returns : tie.Need-returns
 returns c = λ e. absurd (both (sym e))
 
-cell6-requires : tie.Need-cell6-requires
-cell6-requires c κs = search needs
-
 returns-2 : tie.Need-returns-2
 returns-2 c = λ e. (c .before .if1 .left, sym (c .cell6 .ensures) ∙ eqb-true _ _ e)
 
 pub ended-spec : {M : Type 1} → statement M
-ended-spec = tie.close (tie.spec returns cell6-requires returns-2)
+ended-spec = tie.close (tie.spec returns (λ c κs. search needs) returns-2)

@@ -18,17 +18,8 @@ Inv-loop n from to₀ i₀ to i = (i ≤ n) × ((length to ≡ 64) × ((j : ℕ)
 abbrev μ-loop : tie.MeasureT-loop
 μ-loop n from to₀ i₀ to i = n - i
 
-size-requires : tie.Need-size-requires Inv-loop μ-loop
-size-requires c κs = search needs
-
-known-few-requires : tie.Need-known-few-requires Inv-loop μ-loop
-known-few-requires c κs = search needs
-
 loop-holds : tie.Need-loop-holds Inv-loop μ-loop
 loop-holds c = (search needs, (refl, below-none _))
-
-place-after-requires : tie.Need-place-after-requires Inv-loop μ-loop
-place-after-requires c κs = search needs
 
 place-fits : (c : tie.After-place-after Inv-loop μ-loop) → c .place-after .result < 64
 place-fits c =
@@ -41,18 +32,6 @@ mul-to c = omega (arith, place-fits c)
 
 array-read-to : tie.Need-array-read-to Inv-loop μ-loop
 array-read-to c = place-fits c
-
-mul-to-2 : tie.Need-mul-to-2 Inv-loop μ-loop
-mul-to-2 c = search needs
-
-array-write-to : tie.Need-array-write-to Inv-loop μ-loop
-array-write-to c = search needs
-
-add-i : tie.Need-add-i Inv-loop μ-loop
-add-i c = search needs
-
-loop-less : tie.Need-loop-less Inv-loop μ-loop
-loop-less c = search needs
 
 loop-again : tie.Need-loop-again Inv-loop μ-loop
 loop-again c =
@@ -76,15 +55,15 @@ ends-spec =
     (tie.spec
     Inv-loop
     μ-loop
-    size-requires
-    known-few-requires
+    (λ c κs. search needs)
+    (λ c κs. search needs)
     loop-holds
-    place-after-requires
+    (λ c κs. search needs)
     mul-to
     array-read-to
-    mul-to-2
-    array-write-to
-    add-i
-    loop-less
+    (λ c. search needs)
+    (λ c. search needs)
+    (λ c. search needs)
+    (λ c. search needs)
     loop-again
     returns)

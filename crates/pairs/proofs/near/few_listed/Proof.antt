@@ -18,12 +18,6 @@ Inv-loop arcs near n used chained size from to at₀ k₀ at k = (k ≤ n) × So
 abbrev μ-loop : tie.MeasureT-loop
 μ-loop arcs near n used chained size from to at₀ k₀ at k = n - k
 
-size-requires : tie.Need-size-requires Inv-loop μ-loop
-size-requires c κs = search needs
-
-ends-requires : tie.Need-ends-requires Inv-loop μ-loop
-ends-requires c κs = search needs
-
 arcs-chained-requires : tie.Need-arcs-chained-requires Inv-loop μ-loop
 arcs-chained-requires c κs =
     let z = c .before .before .before .before in
@@ -32,15 +26,6 @@ arcs-chained-requires c κs =
 
 loop-holds : tie.Need-loop-holds Inv-loop μ-loop
 loop-holds c = (c .before .before .before .before .before .before .pre .0 .1 .1 .0 .0, c .arcs-chained .ensures)
-
-mul-x : tie.Need-mul-x Inv-loop μ-loop
-mul-x c = search needs
-
-element-copy-out-x : tie.Need-element-copy-out-x Inv-loop μ-loop
-element-copy-out-x c = search needs
-
-cell6-requires : tie.Need-cell6-requires Inv-loop μ-loop
-cell6-requires c κs = search needs
 
 returns : tie.Need-returns Inv-loop μ-loop
 returns c =
@@ -53,22 +38,10 @@ returns c =
     let unused = sym (c .before .before .cell6 .ensures) ∙ c .before .if1 .taken in
     sought-end arcs (a .per .at) (e .ends .result) (z .size .result) (listOf (a .per)) (z .size .ensures) (item-is (a .per)) (e .ends .ensures) (take (l .loop .k) (a .near .now)) (l .loop .at) (omega (arith, s .pre .1)) (s .pre .0 .1 .0) (λ i q. all-early arcs (a .near .now) (a .n) (a .used) (l .loop .k) (getD (listOf (a .per)) i 0) (s .pre .0 .1 .1 .1 .0) (c .if2 .taken) (c .before .before .before .before .loop-test .taken) unused (s .pre .0 .1 .1 .1 .1 i q)) (l .loop .inv .1)
 
-of-four-requires : tie.Need-of-four-requires Inv-loop μ-loop
-of-four-requires c κs = search needs
-
-cell6-requires-2 : tie.Need-cell6-requires-2 Inv-loop μ-loop
-cell6-requires-2 c κs = search needs
-
 note-listed-requires : tie.Need-note-listed-requires Inv-loop μ-loop
 note-listed-requires c κs =
     let z = c .before .before .before .before .before .before .before .before .before .before .before .before .before .before .before .before .before in
     omega (arith, z .size .ensures, z .before .pre .1)
-
-add-k : tie.Need-add-k Inv-loop μ-loop
-add-k c = search needs
-
-loop-less : tie.Need-loop-less Inv-loop μ-loop
-loop-less c = search needs
 
 loop-again : tie.Need-loop-again Inv-loop μ-loop
 loop-again c =
@@ -109,18 +82,18 @@ few-listed-spec =
     (tie.spec
     Inv-loop
     μ-loop
-    size-requires
-    ends-requires
+    (λ c κs. search needs)
+    (λ c κs. search needs)
     arcs-chained-requires
     loop-holds
-    mul-x
-    element-copy-out-x
-    cell6-requires
+    (λ c. search needs)
+    (λ c. search needs)
+    (λ c κs. search needs)
     returns
-    of-four-requires
-    cell6-requires-2
+    (λ c κs. search needs)
+    (λ c κs. search needs)
     note-listed-requires
-    add-k
-    loop-less
+    (λ c. search needs)
+    (λ c. search needs)
     loop-again
     returns-2)

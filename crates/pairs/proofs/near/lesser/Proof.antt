@@ -6,25 +6,16 @@ use borrow.Author.Needs.{needs}
 use Rattle.pairs.proofs.near.lesser.Statement.{statement}
 use Rattle.pairs.proofs.near.lesser.Tie as tie
 
-cell6-requires : tie.Need-cell6-requires
-cell6-requires c κs = search needs
-
 returns : tie.Need-returns
 returns c =
     let a = c .before .before .args in
     λ list h. least-other (a .arcs .now) (a .a) (a .b) list (a .m) (a .x) h (rw (ne-eqb _ _ (λ e. c .if1 .taken (c .before .cell6 .ensures ∙ e))))
-
-cell6-requires-2 : tie.Need-cell6-requires-2
-cell6-requires-2 c κs = search needs
 
 returns-2 : tie.Need-returns-2
 returns-2 c =
     let a = c .before .before .before .before .args in
     let is = sym (c .before .before .before .cell6 .ensures) ∙ c .before .before .if1 .left in
     λ list h. least-other (a .arcs .now) (a .a) (a .b) list (a .m) (a .x) h (rw (eq-eqb _ _ is, ne-eqb _ _ (λ e. c .if2 .taken (c .before .cell62 .ensures ∙ e))))
-
-lower-requires : tie.Need-lower-requires
-lower-requires c κs = search needs
 
 returns-3 : tie.Need-returns-3
 returns-3 c =
@@ -36,4 +27,4 @@ returns-3 c =
 
 pub lesser-spec : {M : Type 1} → statement M
 lesser-spec =
-    tie.close (tie.spec cell6-requires returns cell6-requires-2 returns-2 lower-requires returns-3)
+    tie.close (tie.spec (λ c κs. search needs) returns (λ c κs. search needs) returns-2 (λ c κs. search needs) returns-3)

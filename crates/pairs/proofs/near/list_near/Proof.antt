@@ -17,25 +17,10 @@ Inv-loop near₀ arcs seen rows marks m₀ i₀ near m i = (i ≤ length arcs) �
 abbrev μ-loop : tie.MeasureT-loop
 μ-loop near₀ arcs seen rows marks m₀ i₀ near m i = length arcs - i
 
-nothing-listed-requires : tie.Need-nothing-listed-requires Inv-loop μ-loop
-nothing-listed-requires c κs = search needs
-
 returns : tie.Need-returns Inv-loop μ-loop
 returns c =
     let z = c .nothing-listed .ensures in
     (λ some. absurd (omega (arith, z .1 .0)), λ k q. absurd (omega (arith, z .1 .1 .0)))
-
-known-marks-requires : tie.Need-known-marks-requires Inv-loop μ-loop
-known-marks-requires c κs = search needs
-
-array-write-marks : tie.Need-array-write-marks Inv-loop μ-loop
-array-write-marks c = search needs
-
-no-chains-requires : tie.Need-no-chains-requires Inv-loop μ-loop
-no-chains-requires c κs = search needs
-
-onward-requires : tie.Need-onward-requires Inv-loop μ-loop
-onward-requires c κs = search needs
 
 loop-holds : tie.Need-loop-holds Inv-loop μ-loop
 loop-holds c =
@@ -44,25 +29,10 @@ loop-holds c =
     let none = c .before .before .no-chains in
     (o .ensures .1 .0, (listed-run (a .arcs .now) (a .seen .now) [] 0 (o .result) 0 0 (a .rows) 0 (o .ensures) (listed-start (a .arcs .now) (a .seen .now) (a .rows)), (le-refl 0, chained-none (a .arcs .now) (none .last .0) (none .ensures))))
 
-nothing-listed-requires-2 : tie.Need-nothing-listed-requires-2 Inv-loop μ-loop
-nothing-listed-requires-2 c κs = search needs
-
 returns-2 : tie.Need-returns-2 Inv-loop μ-loop
 returns-2 c =
     let z = c .nothing-listed2 .ensures in
     (λ some. absurd (omega (arith, z .1 .0)), λ k q. absurd (omega (arith, z .1 .1 .0)))
-
-meet-requires : tie.Need-meet-requires Inv-loop μ-loop
-meet-requires c κs = search needs
-
-add-onward : tie.Need-add-onward Inv-loop μ-loop
-add-onward c = search needs
-
-onward-requires-2 : tie.Need-onward-requires-2 Inv-loop μ-loop
-onward-requires-2 c κs = search needs
-
-loop-less : tie.Need-loop-less Inv-loop μ-loop
-loop-less c = search needs
 
 loop-again : tie.Need-loop-again Inv-loop μ-loop
 loop-again c =
@@ -86,18 +56,18 @@ list-near-spec =
     (tie.spec
     Inv-loop
     μ-loop
-    nothing-listed-requires
+    (λ c κs. search needs)
     returns
-    known-marks-requires
-    array-write-marks
-    no-chains-requires
-    onward-requires
+    (λ c κs. search needs)
+    (λ c. search needs)
+    (λ c κs. search needs)
+    (λ c κs. search needs)
     loop-holds
-    nothing-listed-requires-2
+    (λ c κs. search needs)
     returns-2
-    meet-requires
-    add-onward
-    onward-requires-2
-    loop-less
+    (λ c κs. search needs)
+    (λ c. search needs)
+    (λ c κs. search needs)
+    (λ c. search needs)
     loop-again
     returns-3)

@@ -14,48 +14,6 @@ use borrow.Author.Needs.{needs}
 use Rattle.pairs.proofs.near.meet.Statement.{statement}
 use Rattle.pairs.proofs.near.meet.Tie as tie
 
-known-near-requires : tie.Need-known-near-requires
-known-near-requires c κs = search needs
-
-cast-x : tie.Need-cast-x
-cast-x c = search needs
-
-add-x : tie.Need-add-x
-add-x c = search needs
-
-mul-near : tie.Need-mul-near
-mul-near c = search needs
-
-element-write-near : tie.Need-element-write-near
-element-write-near c = search needs
-
-mul-if1 : tie.Need-mul-if1
-mul-if1 c = search needs
-
-index-1-if1 : tie.Need-index-1-if1
-index-1-if1 c = search needs
-
-index-2-if1 : tie.Need-index-2-if1
-index-2-if1 c = search needs
-
-mul-chain : tie.Need-mul-chain
-mul-chain c = search needs
-
-index-1-chain : tie.Need-index-1-chain
-index-1-chain c = search needs
-
-index-2-chain : tie.Need-index-2-chain
-index-2-chain c = search needs
-
-chain-requires : tie.Need-chain-requires
-chain-requires c κs = search needs
-
-add-t20 : tie.Need-add-t20
-add-t20 c = search needs
-
-add-t25 : tie.Need-add-t25
-add-t25 c = search needs
-
 returns : tie.Need-returns
 returns c =
     let k = c .before .before .before .before .before in
@@ -77,15 +35,6 @@ returns-2 c =
     let a = b .args in
     (λ seen h. rw (take-set-le (a .m .len) (a .near .now) (a .m .len) (a .i + 1) (le-refl (a .m .len))) (listed-skip (a .arcs .now) seen (take (a .m .len) (a .near .now)) (a .i) (a .m .spare) (a .m .first) (a .m .left) (a .m .used) h (λ u. absurd (u z), λ nz. absurd (nz (c .if2 .taken)))), λ le h. (le, chained-put (a .arcs .now) (a .near .now) (a .m .len) (a .m .chained) (a .i + 1) (b .pre .1 .1) le h))
 
-add-t12 : tie.Need-add-t12
-add-t12 c = search needs
-
-or-else-requires : tie.Need-or-else-requires
-or-else-requires c κs = search needs
-
-sub-t26 : tie.Need-sub-t26
-sub-t26 c = search needs
-
 returns-3 : tie.Need-returns-3
 returns-3 c =
     let z = c .before .before .if1 .left in
@@ -98,23 +47,23 @@ pub meet-spec : {M : Type 1} → statement M
 meet-spec =
     tie.close
     (tie.spec
-    known-near-requires
-    cast-x
-    add-x
-    mul-near
-    element-write-near
-    mul-if1
-    index-1-if1
-    index-2-if1
-    mul-chain
-    index-1-chain
-    index-2-chain
-    chain-requires
-    add-t20
-    add-t25
+    (λ c κs. search needs)
+    (λ c. search needs)
+    (λ c. search needs)
+    (λ c. search needs)
+    (λ c. search needs)
+    (λ c. search needs)
+    (λ c. search needs)
+    (λ c. search needs)
+    (λ c. search needs)
+    (λ c. search needs)
+    (λ c. search needs)
+    (λ c κs. search needs)
+    (λ c. search needs)
+    (λ c. search needs)
     returns
     returns-2
-    add-t12
-    or-else-requires
-    sub-t26
+    (λ c. search needs)
+    (λ c κs. search needs)
+    (λ c. search needs)
     returns-3)

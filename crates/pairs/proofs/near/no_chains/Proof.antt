@@ -15,26 +15,8 @@ Inv-loop near₀ k₀ near k = (length near ≡ 2176) × ((k ≤ 2176) × ((j : 
 abbrev μ-loop : tie.MeasureT-loop
 μ-loop near₀ k₀ near k = 2176 - k
 
-known-near-requires : tie.Need-known-near-requires Inv-loop μ-loop
-known-near-requires c κs = search needs
-
-mul-k : tie.Need-mul-k Inv-loop μ-loop
-mul-k c = search needs
-
 loop-holds : tie.Need-loop-holds Inv-loop μ-loop
 loop-holds c = (c .known-near .ensures, (search needs, λ j a b. absurd (omega arith)))
-
-mul-near : tie.Need-mul-near Inv-loop μ-loop
-mul-near c = search needs
-
-element-write-near : tie.Need-element-write-near Inv-loop μ-loop
-element-write-near c = search needs
-
-add-k : tie.Need-add-k Inv-loop μ-loop
-add-k c = search needs
-
-loop-less : tie.Need-loop-less Inv-loop μ-loop
-loop-less c = search needs
 
 loop-again : tie.Need-loop-again Inv-loop μ-loop
 loop-again c =
@@ -54,12 +36,12 @@ no-chains-spec =
     (tie.spec
     Inv-loop
     μ-loop
-    known-near-requires
-    mul-k
+    (λ c κs. search needs)
+    (λ c. search needs)
     loop-holds
-    mul-near
-    element-write-near
-    add-k
-    loop-less
+    (λ c. search needs)
+    (λ c. search needs)
+    (λ c. search needs)
+    (λ c. search needs)
     loop-again
     returns)

@@ -4,17 +4,11 @@ use borrow.Author.Needs.{needs}
 use Rattle.pairs.proofs.near.onward.Statement.{statement}
 use Rattle.pairs.proofs.near.onward.Tie as tie
 
-skip-requires : tie.Need-skip-requires
-skip-requires c κs = search needs
-
 returns : tie.Need-returns
 returns c =
     let a = c .before .before .args in
     let s = c .skip in
     (s .ensures .0, (s .ensures .1 .0, onward-last (a .arcs .now) (a .seen .now) (a .left) (a .from) (s .result) (c .before .if1 .taken) (s .ensures .1 .1)))
-
-skip-requires-2 : tie.Need-skip-requires-2
-skip-requires-2 c κs = search needs
 
 returns-2 : tie.Need-returns-2
 returns-2 c =
@@ -24,4 +18,4 @@ returns-2 c =
     (s .ensures .0, (s .ensures .1 .0, onward-more (a .arcs .now) (a .seen .now) (a .left) (a .from) (s .result) (a .marks .now) (p .1 .0) (p .1 .1) (s .ensures .1 .1)))
 
 pub onward-spec : {M : Type 1} → statement M
-onward-spec = tie.close (tie.spec skip-requires returns skip-requires-2 returns-2)
+onward-spec = tie.close (tie.spec (λ c κs. search needs) returns (λ c κs. search needs) returns-2)

@@ -7,15 +7,6 @@ use borrow.Author.Needs.{needs}
 use Rattle.pairs.proofs.near.perimeter_arcs_near.Statement.{statement}
 use Rattle.pairs.proofs.near.perimeter_arcs_near.Tie as tie
 
-tells-requires : tie.Need-tells-requires
-tells-requires c κs = search needs
-
-all-marked-requires : tie.Need-all-marked-requires
-all-marked-requires c κs = search needs
-
-size-requires : tie.Need-size-requires
-size-requires c κs = search needs
-
 few-listed-requires : tie.Need-few-listed-requires
 few-listed-requires c κs =
     let s = c .before .before .before .before .before .before in
@@ -40,9 +31,6 @@ arcs-listed-requires c κs =
 returns-2 : tie.Need-returns-2
 returns-2 c = c .arcs-listed .ensures
 
-perimeter-arcs-requires : tie.Need-perimeter-arcs-requires
-perimeter-arcs-requires c κs = search needs
-
 returns-3 : tie.Need-returns-3
 returns-3 c = c .perimeter-arcs .ensures
 
@@ -50,12 +38,12 @@ pub perimeter-arcs-near-spec : {M : Type 1} → statement M
 perimeter-arcs-near-spec =
     tie.close
     (tie.spec
-    tells-requires
-    all-marked-requires
-    size-requires
+    (λ c κs. search needs)
+    (λ c κs. search needs)
+    (λ c κs. search needs)
     few-listed-requires
     returns
     arcs-listed-requires
     returns-2
-    perimeter-arcs-requires
+    (λ c κs. search needs)
     returns-3)

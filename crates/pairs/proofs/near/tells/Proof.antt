@@ -16,14 +16,8 @@ returns-2 c = λ e. absurd (both (sym e))
 returns-3 : tie.Need-returns-3
 returns-3 c = λ e. absurd (both (sym e))
 
-wide-requires : tie.Need-wide-requires
-wide-requires c κs = search needs
-
 returns-4 : tie.Need-returns-4
 returns-4 c = λ e. absurd (both (sym e))
-
-cell6-requires : tie.Need-cell6-requires
-cell6-requires c κs = search needs
 
 returns-5 : tie.Need-returns-5
 returns-5 c =
@@ -39,4 +33,4 @@ returns-5 c =
 pub tells-spec : {M : Type 1} → statement M
 tells-spec =
     tie.close
-    (tie.spec returns returns-2 returns-3 wide-requires returns-4 cell6-requires returns-5)
+    (tie.spec returns returns-2 returns-3 (λ c κs. search needs) returns-4 (λ c κs. search needs) returns-5)

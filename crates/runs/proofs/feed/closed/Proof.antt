@@ -14,15 +14,9 @@ returns-2 : tie.Need-returns-2
 unfolding lacking
 returns-2 c = (rw (eq-eqb (c .before .before .args .read) 0 (c .before .if1 .left), eq-eqb (c .before .before .args .held) 0 (c .if2 .taken)), search needs)
 
-slice-write-chunk : tie.Need-slice-write-chunk
-slice-write-chunk c = search needs
-
-same-length : tie.Need-same-length
-same-length c = search needs
-
 returns-3 : tie.Need-returns-3
 unfolding lacking
 returns-3 c = (rw (eq-eqb (c .before .before .args .read) 0 (c .before .if1 .left), ne-eqb (c .before .before .args .held) 0 (c .if2 .left)) (first-put (c .before .before .args .chunk .now) 10 (c .before .before .pre .0)), search needs)
 
 pub closed-spec : {M : Type 1} → statement M
-closed-spec = tie.close (tie.spec returns returns-2 slice-write-chunk same-length returns-3)
+closed-spec = tie.close (tie.spec returns returns-2 (λ c. search needs) (λ c. search needs) returns-3)

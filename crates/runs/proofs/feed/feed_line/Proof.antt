@@ -12,9 +12,6 @@ use Rattle.runs.proofs.Passing.{line-goes-on, line-ends}
 use Rattle.runs.proofs.feed.feed_line.Statement.{statement}
 use Rattle.runs.proofs.feed.feed_line.Tie as tie
 
-gather-requires : tie.Need-gather-requires
-gather-requires c κs = search needs
-
 at-gather : (c : tie.After-gather)
     → gathering (c .gather .result .next) (written (c .gather .last .1 .1 .0) (c .gather .result .held)) (c .gather .result .ended)
     ≡ gatheredFrom (c .before .before .before .before .args .from) (written (c .before .before .before .before .args .line .now) (c .before .before .before .before .args .held)) (drop (c .before .before .before .before .args .from) (c .before .before .before .before .args .chunk .now))
@@ -30,18 +27,6 @@ returns c =
       (g .ensures .1, search needs),
     )
 
-sub-run-line : tie.Need-sub-run-line
-sub-run-line c = search needs
-
-part-run-line-start : tie.Need-part-run-line-start
-part-run-line-start c = search needs
-
-part-run-line-end : tie.Need-part-run-line-end
-part-run-line-end c = search needs
-
-run-line-requires : tie.Need-run-line-requires
-run-line-requires c κs = search needs
-
 at-run-line : (c : tie.After-run-line)
     → printed (written (c .run-line .last .1 .1 .1 .1 .1 .1 .1 .1 .1 .1 .1 .1 .1 .1 .1 .1 .1 .0) (c .run-line .result)) (mesh (c .run-line .last .0) (c .run-line .last .1 .0) (c .run-line .last .1 .1 .0) (c .run-line .last .1 .1 .1 .0) (c .run-line .last .1 .1 .1 .1 .0) (c .run-line .last .1 .1 .1 .1 .1 .0))
     (room (c .run-line .last .1 .1 .1 .1 .1 .1 .0) (c .run-line .last .1 .1 .1 .1 .1 .1 .1 .0) (c .run-line .last .1 .1 .1 .1 .1 .1 .1 .1 .0) (c .run-line .last .1 .1 .1 .1 .1 .1 .1 .1 .1 .0) (c .run-line .last .1 .1 .1 .1 .1 .1 .1 .1 .1 .1 .0)) (room (c .run-line .last .1 .1 .1 .1 .1 .1 .1 .1 .1 .1 .1 .0) (c .run-line .last .1 .1 .1 .1 .1 .1 .1 .1 .1 .1 .1 .1 .0) (c .run-line .last .1 .1 .1 .1 .1 .1 .1 .1 .1 .1 .1 .1 .1 .0) (c .run-line .last .1 .1 .1 .1 .1 .1 .1 .1 .1 .1 .1 .1 .1 .1 .0) (c .run-line .last .1 .1 .1 .1 .1 .1 .1 .1 .1 .1 .1 .1 .1 .1 .1 .0))
@@ -50,9 +35,6 @@ at-run-line : (c : tie.After-run-line)
     (room ((c .before .before .before .before .before .before .before .before .before .before .before .before .before .before .before .before .before .before .before .before .before .before .before .before .before .before .before .args) .v2 .now) ((c .before .before .before .before .before .before .before .before .before .before .before .before .before .before .before .before .before .before .before .before .before .before .before .before .before .before .before .args) .p2 .now) ((c .before .before .before .before .before .before .before .before .before .before .before .before .before .before .before .before .before .before .before .before .before .before .before .before .before .before .before .args) .a2 .now) ((c .before .before .before .before .before .before .before .before .before .before .before .before .before .before .before .before .before .before .before .before .before .before .before .before .before .before .before .args) .e2 .now) ((c .before .before .before .before .before .before .before .before .before .before .before .before .before .before .before .before .before .before .before .before .before .before .before .before .before .before .before .args) .f2 .now))
     (take (c .before .before .before .before .before .before .before .before .before .before .before .before .before .before .before .before .before .before .before .before .before .before .before .gather .result .held - 0) (c .before .before .before .before .before .before .before .before .before .before .before .before .before .before .before .before .before .before .before .before .before .before .before .gather .last .1 .1 .0)))
 at-run-line c = c .run-line .ensures .0
-
-same-length : tie.Need-same-length
-same-length c = search needs
 
 returns-2 : tie.Need-returns-2
 returns-2 c =
@@ -70,11 +52,11 @@ pub feed-line-spec : {M : Type 1} → statement M
 feed-line-spec =
     tie.close
     (tie.spec
-    gather-requires
+    (λ c κs. search needs)
     returns
-    sub-run-line
-    part-run-line-start
-    part-run-line-end
-    run-line-requires
-    same-length
+    (λ c. search needs)
+    (λ c. search needs)
+    (λ c. search needs)
+    (λ c κs. search needs)
+    (λ c. search needs)
     returns-2)

@@ -16,26 +16,11 @@ Inv-loop chunk from line₀ held n₀ i₀ line n i =
 abbrev μ-loop : tie.MeasureT-loop
 μ-loop chunk from line₀ held n₀ i₀ line n i = length chunk - i
 
-loop-holds : tie.Need-loop-holds Inv-loop μ-loop
-loop-holds c = search needs
-
-shared-slice-read-b : tie.Need-shared-slice-read-b Inv-loop μ-loop
-shared-slice-read-b c = search needs
-
-add-i : tie.Need-add-i Inv-loop μ-loop
-add-i c = search needs
-
 returns : tie.Need-returns Inv-loop μ-loop
 returns c =
     let l = c .before .before .before in
     let chunk = l .before .before .args .chunk .now in
     (sym (l .loop .inv .1 ∙ gather-ends chunk (l .loop .i) (written (l .loop .line) (l .loop .n)) (search needs) (c .if1 .taken)), search needs)
-
-hold-requires : tie.Need-hold-requires Inv-loop μ-loop
-hold-requires c κs = search needs
-
-loop-less : tie.Need-loop-less Inv-loop μ-loop
-loop-less c = search needs
 
 loop-again : tie.Need-loop-again Inv-loop μ-loop
 loop-again c =
@@ -59,11 +44,11 @@ gather-spec =
     (tie.spec
     Inv-loop
     μ-loop
-    loop-holds
-    shared-slice-read-b
-    add-i
+    (λ c. search needs)
+    (λ c. search needs)
+    (λ c. search needs)
     returns
-    hold-requires
-    loop-less
+    (λ c κs. search needs)
+    (λ c. search needs)
     loop-again
     returns-2)

@@ -9,16 +9,10 @@ returns c =
     let a = c .before .args in
     (held-full (a .line .now) (a .held) (a .b) (c .if1 .taken), search needs)
 
-element-write-line : tie.Need-element-write-line
-element-write-line c = search needs
-
-add-result : tie.Need-add-result
-add-result c = search needs
-
 returns-2 : tie.Need-returns-2
 returns-2 c =
     let a = c .before .args in
     (held-more (a .line .now) (a .held) (a .b) (search needs), search needs)
 
 pub hold-spec : {M : Type 1} → statement M
-hold-spec = tie.close (tie.spec returns element-write-line add-result returns-2)
+hold-spec = tie.close (tie.spec returns (λ c. search needs) (λ c. search needs) returns-2)

@@ -13,21 +13,6 @@ use Rattle.runs.proofs.Answering.{keys-within, says-all, unread-prints,
 use Rattle.runs.proofs.run.run_line.Statement.{statement}
 use Rattle.runs.proofs.run.run_line.Tie as tie
 
-read-line-requires : tie.Need-read-line-requires
-read-line-requires c κs = search needs
-
-enum-known-said : tie.Need-enum-known-said
-enum-known-said c = search needs
-
-enum-told : tie.Need-enum-told
-enum-told c = search needs
-
-put-unreadable-requires : tie.Need-put-unreadable-requires
-put-unreadable-requires c κs = search needs
-
-same-length : tie.Need-same-length
-same-length c = search needs
-
 returns : tie.Need-returns
 returns c =
     let a = c .before .before .before .before .before .before .before .before .before .args in
@@ -39,17 +24,8 @@ returns c =
       p .ensures .1,
     )
 
-sub-change : tie.Need-sub-change
-sub-change c = search needs
-
-part-change-start : tie.Need-part-change-start
-part-change-start c = search needs
-
 part-change-end : tie.Need-part-change-end
 part-change-end c = keys-within (lineIn (c .before .before .before .before .before .before .before .before .before .before .before .before .before .before .before .before .before .before .before .before .before .before .before .before .args .line .now)) (c .before .before .before .before .before .before .before .before .before .before .before .before .before .before .before .before .before .before .before .before .before .read-line .result) (c .before .before .before .before .before .before .before .before .before .before .before .before .before .before .before .before .before .before .before .before .before .read-line .ensures .0)
-
-change-requires : tie.Need-change-requires
-change-requires c κs = search needs
 
 at-change : (c : tie.After-change)
     → outcome (c .change .result) (mesh (c .change .last .0) (c .change .last .1 .0) (c .change .last .1 .1 .0) (c .change .last .1 .1 .1 .0) (c .change .last .1 .1 .1 .1 .0) (c .change .last .1 .1 .1 .1 .1 .0))
@@ -62,9 +38,6 @@ at-change c = c .change .ensures
 
 put-answer-requires : tie.Need-put-answer-requires
 put-answer-requires c κs = c .before .before .before .before .before .before .before .before .before .before .before .before .before .before .before .before .before .before .before .before .before .before .before .before .before .before .before .pre
-
-same-length-2 : tie.Need-same-length-2
-same-length-2 c = search needs
 
 returns-2 : tie.Need-returns-2
 returns-2 c =
@@ -85,16 +58,16 @@ pub run-line-spec : {M : Type 1} → statement M
 run-line-spec =
     tie.close
     (tie.spec
-    read-line-requires
-    enum-known-said
-    enum-told
-    put-unreadable-requires
-    same-length
+    (λ c κs. search needs)
+    (λ c. search needs)
+    (λ c. search needs)
+    (λ c κs. search needs)
+    (λ c. search needs)
     returns
-    sub-change
-    part-change-start
+    (λ c. search needs)
+    (λ c. search needs)
     part-change-end
-    change-requires
+    (λ c κs. search needs)
     put-answer-requires
-    same-length-2
+    (λ c. search needs)
     returns-2)

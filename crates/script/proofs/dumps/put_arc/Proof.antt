@@ -12,24 +12,6 @@ use borrow.Author.Needs.{needs}
 use Rattle.script.proofs.dumps.put_arc.Statement.{statement}
 use Rattle.script.proofs.dumps.put_arc.Tie as tie
 
-put-byte-requires : tie.Need-put-byte-requires
-put-byte-requires c κs = search needs
-
-put-name-requires : tie.Need-put-name-requires
-put-name-requires c κs = search needs
-
-put-arcs-requires : tie.Need-put-arcs-requires
-put-arcs-requires c κs = search needs
-
-put-keys-requires : tie.Need-put-keys-requires
-put-keys-requires c κs = search needs
-
-put-byte-requires-2 : tie.Need-put-byte-requires-2
-put-byte-requires-2 c κs = search needs
-
-same-length : tie.Need-same-length
-same-length c = search needs
-
 returns : tie.Need-returns
 returns c =
     let s = c .before .before .before .before .before .before .before .before .before .before .before .before .before .before .before .before .before .before .before .before .before in
@@ -55,10 +37,10 @@ pub put-arc-spec : {M : Type 1} → statement M
 put-arc-spec =
     tie.close
     (tie.spec
-    put-byte-requires
-    put-name-requires
-    put-arcs-requires
-    put-keys-requires
-    put-byte-requires-2
-    same-length
+    (λ c κs. search needs)
+    (λ c κs. search needs)
+    (λ c κs. search needs)
+    (λ c κs. search needs)
+    (λ c κs. search needs)
+    (λ c. search needs)
     returns)

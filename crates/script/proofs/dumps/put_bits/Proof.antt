@@ -12,21 +12,6 @@ use borrow.Author.Needs.{needs}
 use Rattle.script.proofs.dumps.put_bits.Statement.{statement}
 use Rattle.script.proofs.dumps.put_bits.Tie as tie
 
-put-two-requires : tie.Need-put-two-requires
-put-two-requires c κs = search needs
-
-put-byte-requires : tie.Need-put-byte-requires
-put-byte-requires c κs = search needs
-
-bits-of-requires : tie.Need-bits-of-requires
-bits-of-requires c κs = search needs
-
-put-hex-requires : tie.Need-put-hex-requires
-put-hex-requires c κs = search needs
-
-same-length : tie.Need-same-length
-same-length c = search needs
-
 returns : tie.Need-returns
 returns c =
     let s = c .before .before .before .before .before .before .before .before .before .before .before .before .before .before in
@@ -46,9 +31,9 @@ pub put-bits-spec : {M : Type 1} → statement M
 put-bits-spec =
     tie.close
     (tie.spec
-    put-two-requires
-    put-byte-requires
-    bits-of-requires
-    put-hex-requires
-    same-length
+    (λ c κs. search needs)
+    (λ c κs. search needs)
+    (λ c κs. search needs)
+    (λ c κs. search needs)
+    (λ c. search needs)
     returns)

@@ -11,18 +11,6 @@ use borrow.Author.Needs.{needs}
 use Rattle.script.proofs.dumps.put_counters.Statement.{statement}
 use Rattle.script.proofs.dumps.put_counters.Tie as tie
 
-put-byte-requires : tie.Need-put-byte-requires
-put-byte-requires c κs = search needs
-
-put-three-requires : tie.Need-put-three-requires
-put-three-requires c κs = search needs
-
-put-byte-requires-2 : tie.Need-put-byte-requires-2
-put-byte-requires-2 c κs = search needs
-
-same-length : tie.Need-same-length
-same-length c = search needs
-
 returns : tie.Need-returns
 returns c =
     let s = c .before .before .before .before .before .before .before .before .before .before .before .before .before in
@@ -41,4 +29,4 @@ returns c =
 pub put-counters-spec : {M : Type 1} → statement M
 put-counters-spec =
     tie.close
-    (tie.spec put-byte-requires put-three-requires put-byte-requires-2 same-length returns)
+    (tie.spec (λ c κs. search needs) (λ c κs. search needs) (λ c κs. search needs) (λ c. search needs) returns)

@@ -12,9 +12,6 @@ use borrow.Author.Needs.{needs}
 use Rattle.script.proofs.dumps.put_name.Statement.{statement}
 use Rattle.script.proofs.dumps.put_name.Tie as tie
 
-enum-told : tie.Need-enum-told
-enum-told c = search needs
-
 returns : tie.Need-returns
 returns c =
     let s = c .before .before .before .before in
@@ -23,12 +20,6 @@ returns c =
           ∙ sym (ap (λ (n : Name). wrote (a .out .now) (a .at) (nameText (a .dashes) n)) (c .before .enum-told .given .1)),
       omega arith,
     )
-
-put-two-requires : tie.Need-put-two-requires
-put-two-requires c κs = search needs
-
-same-length : tie.Need-same-length
-same-length c = search needs
 
 returns-2 : tie.Need-returns-2
 returns-2 c =
@@ -39,27 +30,6 @@ returns-2 c =
           ∙ sym (ap (λ (n : Name). wrote (a .out .now) (a .at) (nameText (a .dashes) n)) (c .before .before .before .before .before .before .enum-told .given .1)),
       omega (arith, w .ensures .1),
     )
-
-put-two-requires-2 : tie.Need-put-two-requires-2
-put-two-requires-2 c κs = search needs
-
-enum-known-name : tie.Need-enum-known-name
-enum-known-name c = search needs
-
-put-spaced-requires : tie.Need-put-spaced-requires
-put-spaced-requires c κs = search needs
-
-enum-known-name-2 : tie.Need-enum-known-name-2
-enum-known-name-2 c = search needs
-
-put-spaced-requires-2 : tie.Need-put-spaced-requires-2
-put-spaced-requires-2 c κs = search needs
-
-put-spaced-requires-3 : tie.Need-put-spaced-requires-3
-put-spaced-requires-3 c κs = search needs
-
-same-length-2 : tie.Need-same-length-2
-same-length-2 c = search needs
 
 returns-3 : tie.Need-returns-3
 returns-3 c =
@@ -73,9 +43,6 @@ returns-3 c =
     let w1 = wrote-then o (a .at) (x0 .last .0) (x1 .last .0) (x0 .result) (x1 .result) (t0) t1 (omega (arith, s .pre, x0 .ensures .1, x1 .ensures .1)) (x0 .ensures .0) (x1 .ensures .0) in
     (w1 ∙ ap (wrote o (a .at)) (name-two (a .dashes) (c .before .before .before .before .before .before .before .before .before .if1 .left) (c .before .before .before .before .if2 .left) ∙ sym (ap (nameText (a .dashes)) (c .before .before .before .before .before .before .before .before .before .before .enum-told .given .1))), omega (arith, x0 .ensures .1, x1 .ensures .1))
 
-same-length-3 : tie.Need-same-length-3
-same-length-3 c = search needs
-
 returns-4 : tie.Need-returns-4
 returns-4 c =
     let s = c .before .before .before .before .before .before .before .before in
@@ -83,9 +50,6 @@ returns-4 c =
     let w = c .before .before .put-spaced in
     let g = c .before .before .before .before .before .name .given in
     (w .ensures .0 ∙ ap (wrote (a .out .now) (a .at)) (name-key (a .dashes) (g .0 .0) ∙ sym (ap (nameText (a .dashes)) (g .1))), omega (arith, w .ensures .1))
-
-same-length-4 : tie.Need-same-length-4
-same-length-4 c = search needs
 
 returns-5 : tie.Need-returns-5
 returns-5 c =
@@ -104,20 +68,20 @@ pub put-name-spec : {M : Type 1} → statement M
 put-name-spec =
     tie.close
     (tie.spec
-    enum-told
+    (λ c. search needs)
     returns
-    put-two-requires
-    same-length
+    (λ c κs. search needs)
+    (λ c. search needs)
     returns-2
-    put-two-requires-2
-    enum-known-name
-    put-spaced-requires
-    enum-known-name-2
-    put-spaced-requires-2
-    put-spaced-requires-3
-    same-length-2
+    (λ c κs. search needs)
+    (λ c. search needs)
+    (λ c κs. search needs)
+    (λ c. search needs)
+    (λ c κs. search needs)
+    (λ c κs. search needs)
+    (λ c. search needs)
     returns-3
-    same-length-3
+    (λ c. search needs)
     returns-4
-    same-length-4
+    (λ c. search needs)
     returns-5)

@@ -12,18 +12,6 @@ use borrow.Author.Needs.{needs}
 use Rattle.script.proofs.dumps.put_position.Statement.{statement}
 use Rattle.script.proofs.dumps.put_position.Tie as tie
 
-put-bits-requires : tie.Need-put-bits-requires
-put-bits-requires c κs = search needs
-
-put-bits-requires-2 : tie.Need-put-bits-requires-2
-put-bits-requires-2 c κs = search needs
-
-put-bits-requires-3 : tie.Need-put-bits-requires-3
-put-bits-requires-3 c κs = search needs
-
-same-length : tie.Need-same-length
-same-length c = search needs
-
 returns : tie.Need-returns
 returns c =
     let s = c .before .before .before .before .before .before .before .before .before .before .before .before .before in
@@ -42,4 +30,4 @@ returns c =
 pub put-position-spec : {M : Type 1} → statement M
 put-position-spec =
     tie.close
-    (tie.spec put-bits-requires put-bits-requires-2 put-bits-requires-3 same-length returns)
+    (tie.spec (λ c κs. search needs) (λ c κs. search needs) (λ c κs. search needs) (λ c. search needs) returns)

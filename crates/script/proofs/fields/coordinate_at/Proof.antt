@@ -21,26 +21,17 @@ some c = differ _ _ (end-from _ _) (λ e. c .if2 .left (e ∙ sym (c .before .fi
 returns : tie.Need-returns
 returns c = sym (coordinate-past _ _ (c .if1 .taken))
 
-field-end-requires : tie.Need-field-end-requires
-field-end-requires c κs = search needs
-
 returns-2 : tie.Need-returns-2
 returns-2 c = sym (coordinate-none _ _ (search needs) (c .if2 .taken ∙ c .before .field-end .ensures))
 
 shared-slice-read-if3 : tie.Need-shared-slice-read-if3
 shared-slice-read-if3 c = let a = c .before .before .before .before .before .args in omega (arith, some (c .before), end-within (a .text .now) (a .at) (search needs))
 
-add-digits : tie.Need-add-digits
-add-digits c = search needs
-
 digits-requires : tie.Need-digits-requires
 digits-requires c κs = end-in (c .before .before .before)
 
 add-signed : tie.Need-add-signed
 add-signed c = omega (arith, end-in (c .before .before .before .before))
-
-signed-requires : tie.Need-signed-requires
-signed-requires c κs = search needs
 
 returns-3 : tie.Need-returns-3
 returns-3 c =
@@ -55,9 +46,6 @@ digits-requires-2 c κs = end-in (c .before .before .before)
 add-signed-2 : tie.Need-add-signed-2
 add-signed-2 c = omega (arith, end-in (c .before .before .before .before))
 
-signed-requires-2 : tie.Need-signed-requires-2
-signed-requires-2 c κs = search needs
-
 returns-4 : tie.Need-returns-4
 returns-4 c =
     let a = c .before .before .before .before .before .before .before .before .args in
@@ -70,15 +58,15 @@ coordinate-at-spec =
     tie.close
     (tie.spec
     returns
-    field-end-requires
+    (λ c κs. search needs)
     returns-2
     shared-slice-read-if3
-    add-digits
+    (λ c. search needs)
     digits-requires
     add-signed
-    signed-requires
+    (λ c κs. search needs)
     returns-3
     digits-requires-2
     add-signed-2
-    signed-requires-2
+    (λ c κs. search needs)
     returns-4)

@@ -22,9 +22,6 @@ returns c = let a = c .before .args in sym (ap digitsOf (here-none (a .text .now
 loop-holds : tie.Need-loop-holds Inv-loop μ-loop
 loop-holds c = let a = c .before .args in (search needs, search needs, here-begin (a .text .now) (a .at) (a .end) (a .limit) 0 (search needs) (search needs))
 
-shared-slice-read-c : tie.Need-shared-slice-read-c Inv-loop μ-loop
-shared-slice-read-c c = search needs
-
 returns-2 : tie.Need-returns-2 Inv-loop μ-loop
 unfolding digitsOf
 returns-2 c =
@@ -39,15 +36,6 @@ returns-3 c =
     let a = l .before .before .args in
     sym (ap digitsOf (l .loop .inv .2 ∙ here-high (a .text .now) (l .loop .i) (a .end) (a .limit) (l .loop .value) (search needs) (search needs) (c .if3 .taken)))
 
-mul-value : tie.Need-mul-value Inv-loop μ-loop
-mul-value c = search needs
-
-cast-value : tie.Need-cast-value Inv-loop μ-loop
-cast-value c = search needs
-
-add-value : tie.Need-add-value Inv-loop μ-loop
-add-value c = search needs
-
 returns-4 : tie.Need-returns-4 Inv-loop μ-loop
 unfolding digitsOf
 returns-4 c =
@@ -55,20 +43,11 @@ returns-4 c =
     let a = l .before .before .args in
     sym (ap digitsOf (l .loop .inv .2 ∙ here-over (a .text .now) (l .loop .i) (a .end) (a .limit) (l .loop .value) (search needs) (search needs) (c .before .before .if2 .left) (c .before .if3 .left) (c .if4 .taken)))
 
-add-i : tie.Need-add-i Inv-loop μ-loop
-add-i c = search needs
-
-loop-less : tie.Need-loop-less Inv-loop μ-loop
-loop-less c = search needs
-
 loop-again : tie.Need-loop-again Inv-loop μ-loop
 loop-again c =
     let l = c .before .before .before .before .before in
     let a = l .before .before .args in
     (search needs, search needs, l .loop .inv .2 ∙ here-next (a .text .now) (l .loop .i) (a .end) (a .limit) (l .loop .value) (search needs) (search needs) (c .before .before .if2 .left) (c .before .if3 .left))
-
-cast-t15 : tie.Need-cast-t15 Inv-loop μ-loop
-cast-t15 c = search needs
 
 returns-5 : tie.Need-returns-5 Inv-loop μ-loop
 unfolding digitsOf
@@ -85,15 +64,15 @@ digits-spec =
     μ-loop
     returns
     loop-holds
-    shared-slice-read-c
+    (λ c. search needs)
     returns-2
     returns-3
-    mul-value
-    cast-value
-    add-value
+    (λ c. search needs)
+    (λ c. search needs)
+    (λ c. search needs)
     returns-4
-    add-i
-    loop-less
+    (λ c. search needs)
+    (λ c. search needs)
     loop-again
-    cast-t15
+    (λ c. search needs)
     returns-5)

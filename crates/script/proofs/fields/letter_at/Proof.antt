@@ -8,20 +8,11 @@ use Rattle.script.proofs.fields.letter_at.Tie as tie
 returns : tie.Need-returns
 returns c = sym (letter-past _ _ (c .if1 .taken))
 
-field-end-requires : tie.Need-field-end-requires
-field-end-requires c κs = search needs
-
-add-if2 : tie.Need-add-if2
-add-if2 c = search needs
-
 returns-2 : tie.Need-returns-2
 returns-2 c = sym (letter-not _ _ (search needs) (λ e. c .if2 .taken (c .before .field-end .ensures ∙ e)))
 
 shared-slice-read-t7 : tie.Need-shared-slice-read-t7
 shared-slice-read-t7 c = letter-in _ _ (search needs) (sym (c .before .before .field-end .ensures) ∙ c .before .if2 .left)
-
-add-t4 : tie.Need-add-t4
-add-t4 c = search needs
 
 returns-3 : tie.Need-returns-3
 returns-3 c = rw (c .before .before .field-end .ensures) (sym (letter-is _ _ (search needs) (sym (c .before .before .field-end .ensures) ∙ c .before .if2 .left)))
@@ -29,4 +20,4 @@ returns-3 c = rw (c .before .before .field-end .ensures) (sym (letter-is _ _ (se
 pub letter-at-spec : {M : Type 1} → statement M
 letter-at-spec =
     tie.close
-    (tie.spec returns field-end-requires add-if2 returns-2 shared-slice-read-t7 add-t4 returns-3)
+    (tie.spec returns (λ c κs. search needs) (λ c. search needs) returns-2 shared-slice-read-t7 (λ c. search needs) returns-3)

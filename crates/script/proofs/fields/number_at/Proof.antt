@@ -15,20 +15,11 @@ end-in c = rw (c .field-end .ensures) (end-within _ _ (search needs))
 returns : tie.Need-returns
 returns c = sym (number-past _ _ (c .if1 .taken))
 
-field-end-requires : tie.Need-field-end-requires
-field-end-requires c κs = search needs
-
 digits-requires : tie.Need-digits-requires
 digits-requires c κs = end-in c
 
-enum-known-v : tie.Need-enum-known-v
-enum-known-v c = search needs
-
 add-t9 : tie.Need-add-t9
 add-t9 c = omega (arith, end-in (c .before .before .before .before))
-
-enum-told : tie.Need-enum-told
-enum-told c = search needs
 
 returns-2 : tie.Need-returns-2
 returns-2 c =
@@ -49,10 +40,10 @@ number-at-spec =
     tie.close
     (tie.spec
     returns
-    field-end-requires
+    (λ c κs. search needs)
     digits-requires
-    enum-known-v
+    (λ c. search needs)
     add-t9
-    enum-told
+    (λ c. search needs)
     returns-2
     returns-3)

@@ -21,18 +21,6 @@ abbrev μ-loop : tie.MeasureT-loop
 loop-holds : tie.Need-loop-holds Inv-loop μ-loop
 loop-holds c = (refl, search needs, search needs, refl, behind-none _)
 
-number-at-requires : tie.Need-number-at-requires Inv-loop μ-loop
-number-at-requires c κs = search needs
-
-enum-known-v : tie.Need-enum-known-v Inv-loop μ-loop
-enum-known-v c = search needs
-
-enum-told : tie.Need-enum-told Inv-loop μ-loop
-enum-told c = search needs
-
-no-keys-requires : tie.Need-no-keys-requires Inv-loop μ-loop
-no-keys-requires c κs = search needs
-
 -- the number that was read, and room for it
 is : (c : tie.After-known-told Inv-loop μ-loop) → NumberIs (c .before .before .before .before .before .before .before .args .text .now) (c .before .before .before .before .before .loop .at) (c .before .v .given .0 .0) (c .before .v .given .0 .1 .0)
 is c = number-is _ _ _ _ (sym (c .before .before .before .number-at .ensures) ∙ c .before .v .given .1)
@@ -88,10 +76,10 @@ numbers-at-spec =
     Inv-loop
     μ-loop
     loop-holds
-    number-at-requires
-    enum-known-v
-    enum-told
-    no-keys-requires
+    (λ c κs. search needs)
+    (λ c. search needs)
+    (λ c. search needs)
+    (λ c κs. search needs)
     returns
     mul-values
     array-write-values

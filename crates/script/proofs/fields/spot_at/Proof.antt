@@ -5,15 +5,6 @@ use borrow.Author.Needs.{needs}
 use Rattle.script.proofs.fields.spot_at.Statement.{statement}
 use Rattle.script.proofs.fields.spot_at.Tie as tie
 
-coordinate-at-requires : tie.Need-coordinate-at-requires
-coordinate-at-requires c κs = search needs
-
-enum-known-x : tie.Need-enum-known-x
-enum-known-x c = search needs
-
-enum-told : tie.Need-enum-told
-enum-told c = search needs
-
 -- what each coordinate that was read says
 x-is : (c : tie.After-x) → CoordinateIs (c .before .before .before .before .args .text .now) (c .before .before .before .before .args .at) (c .x .given .0 .0) (c .x .given .0 .1 .0)
 x-is c = coordinate-is _ _ _ _ (sym (c .before .before .coordinate-at .ensures) ∙ c .x .given .1)
@@ -27,26 +18,8 @@ z-is c = coordinate-is _ _ _ _ (sym (c .before .before .coordinate-at3 .ensures)
 returns : tie.Need-returns
 returns c = spot-first _ _ (sym (c .before .before .coordinate-at .ensures) ∙ c .enum-told .given .1)
 
-coordinate-at-requires-2 : tie.Need-coordinate-at-requires-2
-coordinate-at-requires-2 c κs = search needs
-
-enum-known-y : tie.Need-enum-known-y
-enum-known-y c = search needs
-
-enum-told-2 : tie.Need-enum-told-2
-enum-told-2 c = search needs
-
 returns-2 : tie.Need-returns-2
 returns-2 c = spot-second _ _ _ _ (x-is (c .before .before .before .before)) (sym (c .before .before .coordinate-at2 .ensures) ∙ c .enum-told2 .given .1)
-
-coordinate-at-requires-3 : tie.Need-coordinate-at-requires-3
-coordinate-at-requires-3 c κs = search needs
-
-enum-known-z : tie.Need-enum-known-z
-enum-known-z c = search needs
-
-enum-told-3 : tie.Need-enum-told-3
-enum-told-3 c = search needs
 
 returns-3 : tie.Need-returns-3
 returns-3 c = spot-third _ _ _ _ _ _ (x-is (c .before .before .before .before .before .before .before .before)) (y-is (c .before .before .before .before)) (sym (c .before .before .coordinate-at3 .ensures) ∙ c .enum-told3 .given .1)
@@ -61,17 +34,17 @@ pub spot-at-spec : {M : Type 1} → statement M
 spot-at-spec =
     tie.close
     (tie.spec
-    coordinate-at-requires
-    enum-known-x
-    enum-told
+    (λ c κs. search needs)
+    (λ c. search needs)
+    (λ c. search needs)
     returns
-    coordinate-at-requires-2
-    enum-known-y
-    enum-told-2
+    (λ c κs. search needs)
+    (λ c. search needs)
+    (λ c. search needs)
     returns-2
-    coordinate-at-requires-3
-    enum-known-z
-    enum-told-3
+    (λ c κs. search needs)
+    (λ c. search needs)
+    (λ c. search needs)
     returns-3
     returns-4
     returns-5)

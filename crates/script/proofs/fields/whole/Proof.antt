@@ -6,9 +6,6 @@ use borrow.Author.Needs.{needs}
 use Rattle.script.proofs.fields.whole.Statement.{statement}
 use Rattle.script.proofs.fields.whole.Tie as tie
 
-int-to-float-size : tie.Need-int-to-float-size
-int-to-float-size c = search needs
-
 returns : tie.Need-returns
 unfolding floatOf
 returns c = rw (not-true (c .before .before .args .minus) (c .if1 .taken))
@@ -20,4 +17,4 @@ returns-3 : tie.Need-returns-3
 returns-3 c = rw (not-false (c .before .before .before .args .minus) (c .before .if1 .left)) (float-minus _ (c .if2 .left))
 
 pub whole-spec : {M : Type 1} → statement M
-whole-spec = tie.close (tie.spec int-to-float-size returns returns-2 returns-3)
+whole-spec = tie.close (tie.spec (λ c. search needs) returns returns-2 returns-3)

@@ -8,29 +8,11 @@ use borrow.Author.Needs.{needs}
 use Rattle.script.proofs.lines.aim_at.Statement.{statement}
 use Rattle.script.proofs.lines.aim_at.Tie as tie
 
-number-at-requires : tie.Need-number-at-requires
-number-at-requires c κs = search needs
-
-enum-known-f : tie.Need-enum-known-f
-enum-known-f c = search needs
-
-enum-told : tie.Need-enum-told
-enum-told c = search needs
-
 is : (c : tie.After-f) → NumberIs (c .before .before .before .before .args .text .now) (c .before .before .before .before .args .at) (c .f .given .0 .0) (c .f .given .0 .1 .0)
 is c = number-is _ _ _ _ (sym (c .before .before .number-at .ensures) ∙ c .f .given .1)
 
 returns : tie.Need-returns
 returns c = aim-none _ (number-is-not _ _ (sym (c .before .before .number-at .ensures) ∙ c .enum-told .given .1))
-
-spot-at-requires : tie.Need-spot-at-requires
-spot-at-requires c κs = search needs
-
-enum-known-p : tie.Need-enum-known-p
-enum-known-p c = search needs
-
-enum-told-2 : tie.Need-enum-told-2
-enum-told-2 c = search needs
 
 returns-2 : tie.Need-returns-2
 returns-2 c =
@@ -46,12 +28,12 @@ pub aim-at-spec : {M : Type 1} → statement M
 aim-at-spec =
     tie.close
     (tie.spec
-    number-at-requires
-    enum-known-f
-    enum-told
+    (λ c κs. search needs)
+    (λ c. search needs)
+    (λ c. search needs)
     returns
-    spot-at-requires
-    enum-known-p
-    enum-told-2
+    (λ c κs. search needs)
+    (λ c. search needs)
+    (λ c. search needs)
     returns-2
     returns-3)

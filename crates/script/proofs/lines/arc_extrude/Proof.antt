@@ -9,41 +9,11 @@ use borrow.Author.Needs.{needs}
 use Rattle.script.proofs.lines.arc_extrude.Statement.{statement}
 use Rattle.script.proofs.lines.arc_extrude.Tie as tie
 
-number-at-requires : tie.Need-number-at-requires
-number-at-requires c κs = search needs
-
-enum-known-s : tie.Need-enum-known-s
-enum-known-s c = search needs
-
-enum-told : tie.Need-enum-told
-enum-told c = search needs
-
-unreadable-requires : tie.Need-unreadable-requires
-unreadable-requires c κs = search needs
-
 is : (c : tie.After-s) → NumberIs (c .before .before .before .before .args .text .now) 2 (c .s .given .0 .0) (c .s .given .0 .1 .0)
 is c = number-is _ _ _ _ (sym (c .before .before .number-at .ensures) ∙ c .s .given .1)
 
 returns : tie.Need-returns
 returns c = c .unreadable .ensures ∙ sym (ap parsedOf (arc-none (fieldsFrom (c .before .before .before .before .before .args .text .now) 2) (number-is-not _ _ (sym (c .before .before .before .number-at .ensures) ∙ c .before .enum-told .given .1))))
-
-aim-at-requires : tie.Need-aim-at-requires
-aim-at-requires c κs = search needs
-
-enum-known-d : tie.Need-enum-known-d
-enum-known-d c = search needs
-
-shift-requires : tie.Need-shift-requires
-shift-requires c κs = search needs
-
-says-requires : tie.Need-says-requires
-says-requires c κs = search needs
-
-enum-told-2 : tie.Need-enum-told-2
-enum-told-2 c = search needs
-
-unreadable-requires-2 : tie.Need-unreadable-requires-2
-unreadable-requires-2 c κs = search needs
 
 returns-2 : tie.Need-returns-2
 returns-2 c =
@@ -60,16 +30,16 @@ pub arc-extrude-spec : {M : Type 1} → statement M
 arc-extrude-spec =
     tie.close
     (tie.spec
-    number-at-requires
-    enum-known-s
-    enum-told
-    unreadable-requires
+    (λ c κs. search needs)
+    (λ c. search needs)
+    (λ c. search needs)
+    (λ c κs. search needs)
     returns
-    aim-at-requires
-    enum-known-d
-    shift-requires
-    says-requires
-    enum-told-2
-    unreadable-requires-2
+    (λ c κs. search needs)
+    (λ c. search needs)
+    (λ c κs. search needs)
+    (λ c κs. search needs)
+    (λ c. search needs)
+    (λ c κs. search needs)
     returns-2
     returns-3)

@@ -9,36 +9,6 @@ use borrow.Author.Needs.{needs}
 use Rattle.script.proofs.lines.by_letter.Statement.{statement}
 use Rattle.script.proofs.lines.by_letter.Tie as tie
 
-vertex-insert-requires : tie.Need-vertex-insert-requires
-vertex-insert-requires c κs = search needs
-
-face-insert-requires : tie.Need-face-insert-requires
-face-insert-requires c κs = search needs
-
-face-remove-requires : tie.Need-face-remove-requires
-face-remove-requires c κs = search needs
-
-face-split-requires : tie.Need-face-split-requires
-face-split-requires c κs = search needs
-
-face-poke-requires : tie.Need-face-poke-requires
-face-poke-requires c κs = search needs
-
-face-bridge-requires : tie.Need-face-bridge-requires
-face-bridge-requires c κs = search needs
-
-arc-bridge-requires : tie.Need-arc-bridge-requires
-arc-bridge-requires c κs = search needs
-
-face-extrude-requires : tie.Need-face-extrude-requires
-face-extrude-requires c κs = search needs
-
-arc-extrude-requires : tie.Need-arc-extrude-requires
-arc-extrude-requires c κs = search needs
-
-unreadable-requires : tie.Need-unreadable-requires
-unreadable-requires c κs = search needs
-
 returns : tie.Need-returns
 returns c =
     c .vertex-insert .ensures ∙ sym (ap (λ (x : ℕ). parsedOf (lineOf x (fieldsFrom (c .before .before .before .args .text .now) 2))) (c .before .match .keys1))
@@ -84,16 +54,16 @@ pub by-letter-spec : {M : Type 1} → statement M
 by-letter-spec =
     tie.close
     (tie.spec
-    vertex-insert-requires
-    face-insert-requires
-    face-remove-requires
-    face-split-requires
-    face-poke-requires
-    face-bridge-requires
-    arc-bridge-requires
-    face-extrude-requires
-    arc-extrude-requires
-    unreadable-requires
+    (λ c κs. search needs)
+    (λ c κs. search needs)
+    (λ c κs. search needs)
+    (λ c κs. search needs)
+    (λ c κs. search needs)
+    (λ c κs. search needs)
+    (λ c κs. search needs)
+    (λ c κs. search needs)
+    (λ c κs. search needs)
+    (λ c κs. search needs)
     returns
     returns-2
     returns-3

@@ -5,26 +5,11 @@ use borrow.Author.Needs.{needs}
 use Rattle.script.proofs.lines.exactly.Statement.{statement}
 use Rattle.script.proofs.lines.exactly.Tie as tie
 
-numbers-at-requires : tie.Need-numbers-at-requires
-numbers-at-requires c κs = search needs
-
 returns : tie.Need-returns
 returns c = let k = c .before .before .numbers-at in exactly-unread _ (k .result) _ (k .ensures) (not-true (k .result .read) (c .if1 .taken))
 
 returns-2 : tie.Need-returns-2
 returns-2 c = let k = c .before .before .before .before .numbers-at in exactly-other _ (k .result) _ (k .ensures) (c .if2 .taken)
-
-array-read-t8 : tie.Need-array-read-t8
-array-read-t8 c = search needs
-
-array-read-t11 : tie.Need-array-read-t11
-array-read-t11 c = search needs
-
-array-read-t14 : tie.Need-array-read-t14
-array-read-t14 c = search needs
-
-array-read-t17 : tie.Need-array-read-t17
-array-read-t17 c = search needs
 
 returns-3 : tie.Need-returns-3
 returns-3 c = let k = c .before .before .before .before .before .numbers-at in exactly-four _ (k .result) _ (k .ensures) (not-false (k .result .read) (c .before .before .before .if1 .left)) (c .before .if2 .left)
@@ -33,11 +18,11 @@ pub exactly-spec : {M : Type 1} → statement M
 exactly-spec =
     tie.close
     (tie.spec
-    numbers-at-requires
+    (λ c κs. search needs)
     returns
     returns-2
-    array-read-t8
-    array-read-t11
-    array-read-t14
-    array-read-t17
+    (λ c. search needs)
+    (λ c. search needs)
+    (λ c. search needs)
+    (λ c. search needs)
     returns-3)

@@ -10,24 +10,6 @@ use borrow.Author.Needs.{needs}
 use Rattle.script.proofs.lines.face_extrude.Statement.{statement}
 use Rattle.script.proofs.lines.face_extrude.Tie as tie
 
-aim-at-requires : tie.Need-aim-at-requires
-aim-at-requires c κs = search needs
-
-enum-known-f : tie.Need-enum-known-f
-enum-known-f c = search needs
-
-shift-requires : tie.Need-shift-requires
-shift-requires c κs = search needs
-
-says-requires : tie.Need-says-requires
-says-requires c κs = search needs
-
-enum-told : tie.Need-enum-told
-enum-told c = search needs
-
-unreadable-requires : tie.Need-unreadable-requires
-unreadable-requires c κs = search needs
-
 returns : tie.Need-returns
 unfolding lineOf
 returns c =
@@ -43,11 +25,11 @@ pub face-extrude-spec : {M : Type 1} → statement M
 face-extrude-spec =
     tie.close
     (tie.spec
-    aim-at-requires
-    enum-known-f
-    shift-requires
-    says-requires
-    enum-told
-    unreadable-requires
+    (λ c κs. search needs)
+    (λ c. search needs)
+    (λ c κs. search needs)
+    (λ c κs. search needs)
+    (λ c. search needs)
+    (λ c κs. search needs)
     returns
     returns-2)

@@ -10,29 +10,11 @@ use borrow.Author.Needs.{needs}
 use Rattle.script.proofs.lines.face_insert.Statement.{statement}
 use Rattle.script.proofs.lines.face_insert.Tie as tie
 
-number-at-requires : tie.Need-number-at-requires
-number-at-requires c κs = search needs
-
-enum-known-mark : tie.Need-enum-known-mark
-enum-known-mark c = search needs
-
-enum-told : tie.Need-enum-told
-enum-told c = search needs
-
-unreadable-requires : tie.Need-unreadable-requires
-unreadable-requires c κs = search needs
-
 is : (c : tie.After-mark) → NumberIs (c .before .before .before .before .args .text .now) 2 (c .mark .given .0 .0) (c .mark .given .0 .1 .0)
 is c = number-is _ _ _ _ (sym (c .before .before .number-at .ensures) ∙ c .mark .given .1)
 
 returns : tie.Need-returns
 returns c = c .unreadable .ensures ∙ sym (ap parsedOf (insert-none (fieldsFrom (c .before .before .before .before .before .args .text .now) 2) (number-is-not _ _ (sym (c .before .before .before .number-at .ensures) ∙ c .before .enum-told .given .1))))
-
-numbers-at-requires : tie.Need-numbers-at-requires
-numbers-at-requires c κs = search needs
-
-unreadable-requires-2 : tie.Need-unreadable-requires-2
-unreadable-requires-2 c κs = search needs
 
 returns-2 : tie.Need-returns-2
 returns-2 c =
@@ -50,12 +32,12 @@ pub face-insert-spec : {M : Type 1} → statement M
 face-insert-spec =
     tie.close
     (tie.spec
-    number-at-requires
-    enum-known-mark
-    enum-told
-    unreadable-requires
+    (λ c κs. search needs)
+    (λ c. search needs)
+    (λ c. search needs)
+    (λ c κs. search needs)
     returns
-    numbers-at-requires
-    unreadable-requires-2
+    (λ c κs. search needs)
+    (λ c κs. search needs)
     returns-2
     returns-3)

@@ -7,26 +7,8 @@ use borrow.Author.Needs.{needs}
 use Rattle.script.proofs.lines.read_line.Statement.{statement}
 use Rattle.script.proofs.lines.read_line.Tie as tie
 
-unreadable-requires : tie.Need-unreadable-requires
-unreadable-requires c κs = search needs
-
 returns : tie.Need-returns
 returns c = let e = c .unreadable .ensures ∙ sym (ap parsedOf (line-long _ (c .before .if1 .taken))) in (e, few _ _ e)
-
-first-letter-requires : tie.Need-first-letter-requires
-first-letter-requires c κs = search needs
-
-enum-known-letter : tie.Need-enum-known-letter
-enum-known-letter c = search needs
-
-by-letter-requires : tie.Need-by-letter-requires
-by-letter-requires c κs = search needs
-
-enum-told : tie.Need-enum-told
-enum-told c = search needs
-
-unreadable-requires-2 : tie.Need-unreadable-requires-2
-unreadable-requires-2 c κs = search needs
 
 returns-2 : tie.Need-returns-2
 returns-2 c =
@@ -41,12 +23,12 @@ pub read-line-spec : {M : Type 1} → statement M
 read-line-spec =
     tie.close
     (tie.spec
-    unreadable-requires
+    (λ c κs. search needs)
     returns
-    first-letter-requires
-    enum-known-letter
-    by-letter-requires
-    enum-told
-    unreadable-requires-2
+    (λ c κs. search needs)
+    (λ c. search needs)
+    (λ c κs. search needs)
+    (λ c. search needs)
+    (λ c κs. search needs)
     returns-2
     returns-3)

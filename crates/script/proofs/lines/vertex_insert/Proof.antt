@@ -7,21 +7,6 @@ use borrow.Author.Needs.{needs}
 use Rattle.script.proofs.lines.vertex_insert.Statement.{statement}
 use Rattle.script.proofs.lines.vertex_insert.Tie as tie
 
-spot-at-requires : tie.Need-spot-at-requires
-spot-at-requires c κs = search needs
-
-enum-known-p : tie.Need-enum-known-p
-enum-known-p c = search needs
-
-says-requires : tie.Need-says-requires
-says-requires c κs = search needs
-
-enum-told : tie.Need-enum-told
-enum-told c = search needs
-
-unreadable-requires : tie.Need-unreadable-requires
-unreadable-requires c κs = search needs
-
 returns : tie.Need-returns
 returns c =
     c .says .ensures ∙ sym (ap parsedOf (vertex-says (fieldsFrom (c .before .before .before .before .before .before .args .text .now) 2) (c .before .before .p .given .0 .0) (sym (c .before .before .p .given .1) ∙ c .before .before .before .before .spot-at .ensures)))
@@ -33,10 +18,10 @@ pub vertex-insert-spec : {M : Type 1} → statement M
 vertex-insert-spec =
     tie.close
     (tie.spec
-    spot-at-requires
-    enum-known-p
-    says-requires
-    enum-told
-    unreadable-requires
+    (λ c κs. search needs)
+    (λ c. search needs)
+    (λ c κs. search needs)
+    (λ c. search needs)
+    (λ c κs. search needs)
     returns
     returns-2)

@@ -5,18 +5,6 @@ use borrow.Author.Needs.{needs}
 use Rattle.script.proofs.texts.bare.Statement.{statement}
 use Rattle.script.proofs.texts.bare.Tie as tie
 
-enum-known-w : tie.Need-enum-known-w
-enum-known-w c = search needs
-
-enum-told : tie.Need-enum-told
-enum-told c = search needs
-
-enum-told-2 : tie.Need-enum-told-2
-enum-told-2 c = search needs
-
-enum-told-3 : tie.Need-enum-told-3
-enum-told-3 c = search needs
-
 returns : tie.Need-returns
 unfolding bareOf
 returns c = sym (ap bareOf (c .before .w .given .1))
@@ -36,4 +24,4 @@ returns-4 c = sym (ap bareOf (c .enum-told3 .given .1))
 pub bare-spec : {M : Type 1} → statement M
 bare-spec =
     tie.close
-    (tie.spec enum-known-w enum-told enum-told-2 enum-told-3 returns returns-2 returns-3 returns-4)
+    (tie.spec (λ c. search needs) (λ c. search needs) (λ c. search needs) (λ c. search needs) returns returns-2 returns-3 returns-4)

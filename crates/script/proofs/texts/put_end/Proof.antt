@@ -9,12 +9,6 @@ use borrow.Author.Needs.{needs}
 use Rattle.script.proofs.texts.put_end.Statement.{statement}
 use Rattle.script.proofs.texts.put_end.Tie as tie
 
-put-two-requires : tie.Need-put-two-requires
-put-two-requires c κs = search needs
-
-put-byte-requires : tie.Need-put-byte-requires
-put-byte-requires c κs = search needs
-
 put-three-requires : tie.Need-put-three-requires
 put-three-requires c κs = omega (arith, c .before .before .before .put-byte, c .before .before .before .before .before .before .before .put-two, c .before .before .before .before .before .before .before .before .before .before .pre)
 
@@ -44,8 +38,8 @@ pub put-end-spec : {M : Type 1} → statement M
 put-end-spec =
     tie.close
     (tie.spec
-    put-two-requires
-    put-byte-requires
+    (λ c κs. search needs)
+    (λ c κs. search needs)
     put-three-requires
     put-byte-requires-2
     same-length

@@ -9,14 +9,8 @@ use borrow.Author.Needs.{needs}
 use Rattle.script.proofs.texts.put_spaced.Statement.{statement}
 use Rattle.script.proofs.texts.put_spaced.Tie as tie
 
-put-byte-requires : tie.Need-put-byte-requires
-put-byte-requires c κs = search needs
-
 put-decimal-requires : tie.Need-put-decimal-requires
 put-decimal-requires c κs = omega (arith, decimal-short (c .before .before .before .before .before .before .args .n) (c .before .before .before .before .before .before .fits .n .fits), c .before .before .before .put-byte .kept .0)
-
-same-length : tie.Need-same-length
-same-length c = search needs
 
 returns : tie.Need-returns
 returns c =
@@ -32,4 +26,4 @@ returns c =
     )
 
 pub put-spaced-spec : {M : Type 1} → statement M
-put-spaced-spec = tie.close (tie.spec put-byte-requires put-decimal-requires same-length returns)
+put-spaced-spec = tie.close (tie.spec (λ c κs. search needs) put-decimal-requires (λ c. search needs) returns)

@@ -9,15 +9,6 @@ use borrow.Author.Needs.{needs}
 use Rattle.script.proofs.texts.put_unreadable.Statement.{statement}
 use Rattle.script.proofs.texts.put_unreadable.Tie as tie
 
-put-words-requires : tie.Need-put-words-requires
-put-words-requires c κs = search needs
-
-put-byte-requires : tie.Need-put-byte-requires
-put-byte-requires c κs = search needs
-
-same-length : tie.Need-same-length
-same-length c = search needs
-
 returns : tie.Need-returns
 returns c =
     let s = c .before .before .before .before .before .before .before .before .before in
@@ -30,4 +21,4 @@ returns c =
     )
 
 pub put-unreadable-spec : {M : Type 1} → statement M
-put-unreadable-spec = tie.close (tie.spec put-words-requires put-byte-requires same-length returns)
+put-unreadable-spec = tie.close (tie.spec (λ c κs. search needs) (λ c κs. search needs) (λ c. search needs) returns)

@@ -10,44 +10,8 @@ use borrow.Author.Needs.{needs}
 use Rattle.script.proofs.texts.put_words.Statement.{statement}
 use Rattle.script.proofs.texts.put_words.Tie as tie
 
-enum-known-w : tie.Need-enum-known-w
-enum-known-w c = search needs
-
-put-two-requires : tie.Need-put-two-requires
-put-two-requires c κs = search needs
-
-put-spaced-requires : tie.Need-put-spaced-requires
-put-spaced-requires c κs = search needs
-
-enum-told : tie.Need-enum-told
-enum-told c = search needs
-
-put-two-requires-2 : tie.Need-put-two-requires-2
-put-two-requires-2 c κs = search needs
-
-enum-known-w-2 : tie.Need-enum-known-w-2
-enum-known-w-2 c = search needs
-
-put-two-requires-3 : tie.Need-put-two-requires-3
-put-two-requires-3 c κs = search needs
-
-put-spaced-requires-2 : tie.Need-put-spaced-requires-2
-put-spaced-requires-2 c κs = search needs
-
-enum-known-w-3 : tie.Need-enum-known-w-3
-enum-known-w-3 c = search needs
-
-put-two-requires-4 : tie.Need-put-two-requires-4
-put-two-requires-4 c κs = search needs
-
-put-spaced-requires-3 : tie.Need-put-spaced-requires-3
-put-spaced-requires-3 c κs = search needs
-
 put-spaced-requires-4 : tie.Need-put-spaced-requires-4
 put-spaced-requires-4 c κs = omega (arith, c .before .before .before .put-spaced3, c .before .before .before .before .before .before .before .put-two4, c .before .before .before .before .before .before .before .before .before .before .before .before .before .pre)
-
-same-length : tie.Need-same-length
-same-length c = search needs
 
 returns : tie.Need-returns
 unfolding wordsText bytes
@@ -62,18 +26,12 @@ returns c =
       omega (arith, w .ensures .1, l .ensures .1),
     )
 
-same-length-2 : tie.Need-same-length-2
-same-length-2 c = search needs
-
 returns-2 : tie.Need-returns-2
 unfolding wordsText bytes
 returns-2 c =
     let s = c .before .before .before .before .before .before .before in
     let l = c .before .before .put-two2 in
     (l .ensures .0 ∙ sym (ap (λ (x : Words). wrote (s .args .out .now) (s .args .at) (wordsText x)) (c .before .before .before .before .enum-told .given .1)), omega (arith, l .ensures .1))
-
-same-length-3 : tie.Need-same-length-3
-same-length-3 c = search needs
 
 returns-3 : tie.Need-returns-3
 unfolding wordsText bytes
@@ -87,9 +45,6 @@ returns-3 c =
           ∙ sym (ap (λ (x : Words). wrote o (s .args .at) (wordsText x)) (g .1)),
       omega (arith, w .ensures .1, l .ensures .1),
     )
-
-same-length-4 : tie.Need-same-length-4
-same-length-4 c = search needs
 
 returns-4 : tie.Need-returns-4
 unfolding wordsText bytes
@@ -113,23 +68,23 @@ pub put-words-spec : {M : Type 1} → statement M
 put-words-spec =
     tie.close
     (tie.spec
-    enum-known-w
-    put-two-requires
-    put-spaced-requires
-    enum-told
-    put-two-requires-2
-    enum-known-w-2
-    put-two-requires-3
-    put-spaced-requires-2
-    enum-known-w-3
-    put-two-requires-4
-    put-spaced-requires-3
+    (λ c. search needs)
+    (λ c κs. search needs)
+    (λ c κs. search needs)
+    (λ c. search needs)
+    (λ c κs. search needs)
+    (λ c. search needs)
+    (λ c κs. search needs)
+    (λ c κs. search needs)
+    (λ c. search needs)
+    (λ c κs. search needs)
+    (λ c κs. search needs)
     put-spaced-requires-4
-    same-length
+    (λ c. search needs)
     returns
-    same-length-2
+    (λ c. search needs)
     returns-2
-    same-length-3
+    (λ c. search needs)
     returns-3
-    same-length-4
+    (λ c. search needs)
     returns-4)

@@ -5,18 +5,9 @@ use borrow.Author.Needs.{needs}
 use Rattle.script.proofs.texts.shown_words.Statement.{statement}
 use Rattle.script.proofs.texts.shown_words.Tie as tie
 
-words-of-requires : tie.Need-words-of-requires
-words-of-requires c κs = search needs
-
-shows-keys-requires : tie.Need-shows-keys-requires
-shows-keys-requires c κs = search needs
-
 returns : tie.Need-returns
 unfolding shownWords
 returns c = rw (sym (c .before .shows-keys .ensures) ∙ c .if1 .taken) (c .before .before .words-of .ensures)
-
-bare-requires : tie.Need-bare-requires
-bare-requires c κs = search needs
 
 returns-2 : tie.Need-returns-2
 unfolding shownWords
@@ -24,4 +15,4 @@ returns-2 c = rw (sym (c .before .before .shows-keys .ensures) ∙ c .before .if
 
 pub shown-words-spec : {M : Type 1} → statement M
 shown-words-spec =
-    tie.close (tie.spec words-of-requires shows-keys-requires returns bare-requires returns-2)
+    tie.close (tie.spec (λ c κs. search needs) (λ c κs. search needs) returns (λ c κs. search needs) returns-2)

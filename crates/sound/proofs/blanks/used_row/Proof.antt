@@ -9,17 +9,8 @@ use Rattle.sound.proofs.blanks.used_row.Tie as tie
 returns : tie.Need-returns
 returns c = rw (cell-past (c .before .args .vertices .now) (c .before .args .i + 1) 0 (omega arith))
 
-mul-result : tie.Need-mul-result
-mul-result c = search needs
-
-index-1-result : tie.Need-index-1-result
-index-1-result c = search needs
-
-index-2-result : tie.Need-index-2-result
-index-2-result c = search needs
-
 returns-2 : tie.Need-returns-2
 returns-2 c = sym (there-row _ _)
 
 pub used-row-spec : {M : Type 1} → statement M
-used-row-spec = tie.close (tie.spec returns mul-result index-1-result index-2-result returns-2)
+used-row-spec = tie.close (tie.spec returns (λ c. search needs) (λ c. search needs) (λ c. search needs) returns-2)

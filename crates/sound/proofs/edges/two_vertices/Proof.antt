@@ -8,15 +8,9 @@ returns : tie.Need-returns
 unfolding twoVertices
 returns c = rw (eq-eqb _ _ (c .if1 .taken))
 
-cell2-requires : tie.Need-cell2-requires
-cell2-requires c κs = search needs
-
 returns-2 : tie.Need-returns-2
 unfolding twoVertices
 returns-2 c = rw (ne-eqb _ _ (c .before .before .if1 .left), ← c .before .cell2 .ensures, eq-eqb _ _ (c .if2 .taken))
-
-cell2-requires-2 : tie.Need-cell2-requires-2
-cell2-requires-2 c κs = search needs
 
 returns-3 : tie.Need-returns-3
 unfolding twoVertices
@@ -24,4 +18,4 @@ returns-3 c = rw (ne-eqb _ _ (c .before .before .before .if1 .left), ← c .befo
 
 pub two-vertices-spec : {M : Type 1} → statement M
 two-vertices-spec =
-    tie.close (tie.spec returns cell2-requires returns-2 cell2-requires-2 returns-3)
+    tie.close (tie.spec returns (λ c κs. search needs) returns-2 (λ c κs. search needs) returns-3)

@@ -5,18 +5,9 @@ use borrow.Author.Needs.{needs}
 use Rattle.sound.proofs.faces.face_row.Statement.{statement}
 use Rattle.sound.proofs.faces.face_row.Tie as tie
 
-blank3-requires : tie.Need-blank3-requires
-blank3-requires c κs = search needs
-
 returns : tie.Need-returns
 unfolding faceTest
 returns c = rw (sym (c .before .blank3 .ensures) ∙ not-true _ (c .if1 .taken))
-
-array-read-key-below : tie.Need-array-read-key-below
-array-read-key-below c = search needs
-
-key-below-requires : tie.Need-key-below-requires
-key-below-requires c κs = search needs
 
 returns-2 : tie.Need-returns-2
 unfolding faceTest
@@ -24,4 +15,4 @@ returns-2 c = rw (sym (c .before .before .blank3 .ensures) ∙ not-false _ (c .b
 
 pub face-row-spec : {M : Type 1} → statement M
 face-row-spec =
-    tie.close (tie.spec blank3-requires returns array-read-key-below key-below-requires returns-2)
+    tie.close (tie.spec (λ c κs. search needs) returns (λ c. search needs) (λ c κs. search needs) returns-2)

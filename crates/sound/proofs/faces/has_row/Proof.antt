@@ -7,11 +7,8 @@ use Rattle.sound.proofs.faces.has_row.Tie as tie
 returns : tie.Need-returns
 returns c = rw (lt-leb 1 (c .before .args .x) (omega (arith, c .if1 .taken)))
 
-wide-requires : tie.Need-wide-requires
-wide-requires c κs = search needs
-
 returns-2 : tie.Need-returns-2
 returns-2 c = rw (le-leb 1 (c .before .before .args .x) (omega (arith, c .before .if1 .left)), c .wide .ensures)
 
 pub has-row-spec : {M : Type 1} → statement M
-has-row-spec = tie.close (tie.spec returns wide-requires returns-2)
+has-row-spec = tie.close (tie.spec returns (λ c κs. search needs) returns-2)

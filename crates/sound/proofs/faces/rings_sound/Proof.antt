@@ -29,71 +29,11 @@ loop-holds c =
     let a = c .args in
     (search needs, (going-start (bare (a .arcs .now) (a .faces .now)) (a .held) (c .pre), (none-yet (λ j. faceTest (getD (a .counters .now) 2 0) (getD (a .faces .now) j [])), risen-none (a .faces .now))))
 
-element-copy-out-face-row : tie.Need-element-copy-out-face-row Inv-loop μ-loop
-element-copy-out-face-row c = search needs
-
-mul-face-row : tie.Need-mul-face-row Inv-loop μ-loop
-mul-face-row c = search needs
-
-shared-slice-copy-out-face-row : tie.Need-shared-slice-copy-out-face-row Inv-loop μ-loop
-shared-slice-copy-out-face-row c = search needs
-
-face-row-requires : tie.Need-face-row-requires Inv-loop μ-loop
-face-row-requires c κs = search needs
-
 returns : tie.Need-returns Inv-loop μ-loop
 returns c =
     let l = c .before .before .before .before .before in
     let a = l .before .args in
     (λ v p e. rw (faces-rows (mesh v p (a .arcs .now) e (a .faces .now) (a .counters .now)) ∙ sym (one-failed (λ j. faceTest (getD (a .counters .now) 2 0) (getD (a .faces .now) j [])) (length (a .faces .now)) (l .loop .i) (omega arith) (sym (c .before .face-row .ensures) ∙ not-true _ (c .if1 .taken)))), λ e. absurd (true-T e))
-
-mul-still-rising : tie.Need-mul-still-rising Inv-loop μ-loop
-mul-still-rising c = search needs
-
-index-1-still-rising : tie.Need-index-1-still-rising Inv-loop μ-loop
-index-1-still-rising c = search needs
-
-index-2-still-rising : tie.Need-index-2-still-rising Inv-loop μ-loop
-index-2-still-rising c = search needs
-
-still-rising-requires : tie.Need-still-rising-requires Inv-loop μ-loop
-still-rising-requires c κs = search needs
-
-mul-or-last : tie.Need-mul-or-last Inv-loop μ-loop
-mul-or-last c = search needs
-
-index-1-or-last : tie.Need-index-1-or-last Inv-loop μ-loop
-index-1-or-last c = search needs
-
-index-2-or-last : tie.Need-index-2-or-last Inv-loop μ-loop
-index-2-or-last c = search needs
-
-or-last-requires : tie.Need-or-last-requires Inv-loop μ-loop
-or-last-requires c κs = search needs
-
-mul-if2 : tie.Need-mul-if2 Inv-loop μ-loop
-mul-if2 c = search needs
-
-index-1-if2 : tie.Need-index-1-if2 Inv-loop μ-loop
-index-1-if2 c = search needs
-
-index-2-if2 : tie.Need-index-2-if2 Inv-loop μ-loop
-index-2-if2 c = search needs
-
-mul-linked-length : tie.Need-mul-linked-length Inv-loop μ-loop
-mul-linked-length c = search needs
-
-index-1-linked-length : tie.Need-index-1-linked-length Inv-loop μ-loop
-index-1-linked-length c = search needs
-
-index-2-linked-length : tie.Need-index-2-linked-length Inv-loop μ-loop
-index-2-linked-length c = search needs
-
-add-linked-length : tie.Need-add-linked-length Inv-loop μ-loop
-add-linked-length c = search needs
-
-linked-length-requires : tie.Need-linked-length-requires Inv-loop μ-loop
-linked-length-requires c κs = search needs
 
 returns-2 : tie.Need-returns-2 Inv-loop μ-loop
 returns-2 c =
@@ -110,12 +50,6 @@ returns-3 c =
     let m = bare (a .arcs .now) (a .faces .now) in
     let g = l .loop .inv .1 .0 in
     (λ v p e. no-second (facesSound (mesh v p (a .arcs .now) e (a .faces .now) (a .counters .now))) _ (sum-fails m (l .loop .left) (l .loop .i) g (c .before .before .linked-length .result) (c .before .before .before .before .before .if2 .taken) (c .before .before .linked-length .ensures m refl (cell-row (a .faces .now) (l .loop .i) 1)) (c .before .if3 .left) (omega arith) (omega arith) ∙ bare-full v p (a .arcs .now) e (a .faces .now) (a .counters .now)), λ e. absurd (true-T e))
-
-add-i : tie.Need-add-i Inv-loop μ-loop
-add-i c = search needs
-
-loop-less : tie.Need-loop-less Inv-loop μ-loop
-loop-less c = search needs
 
 loop-again : tie.Need-loop-again Inv-loop μ-loop
 loop-again c =
@@ -149,30 +83,30 @@ rings-sound-spec =
     Inv-loop
     μ-loop
     loop-holds
-    element-copy-out-face-row
-    mul-face-row
-    shared-slice-copy-out-face-row
-    face-row-requires
+    (λ c. search needs)
+    (λ c. search needs)
+    (λ c. search needs)
+    (λ c κs. search needs)
     returns
-    mul-still-rising
-    index-1-still-rising
-    index-2-still-rising
-    still-rising-requires
-    mul-or-last
-    index-1-or-last
-    index-2-or-last
-    or-last-requires
-    mul-if2
-    index-1-if2
-    index-2-if2
-    mul-linked-length
-    index-1-linked-length
-    index-2-linked-length
-    add-linked-length
-    linked-length-requires
+    (λ c. search needs)
+    (λ c. search needs)
+    (λ c. search needs)
+    (λ c κs. search needs)
+    (λ c. search needs)
+    (λ c. search needs)
+    (λ c. search needs)
+    (λ c κs. search needs)
+    (λ c. search needs)
+    (λ c. search needs)
+    (λ c. search needs)
+    (λ c. search needs)
+    (λ c. search needs)
+    (λ c. search needs)
+    (λ c. search needs)
+    (λ c κs. search needs)
     returns-2
     returns-3
-    add-i
-    loop-less
+    (λ c. search needs)
+    (λ c. search needs)
     loop-again
     returns-4)

@@ -21,27 +21,12 @@ abbrev μ-loop : tie.MeasureT-loop
 loop-holds : tie.Need-loop-holds Inv-loop μ-loop
 loop-holds c = (search needs, none-yet (λ k. allBelow (λ j. not (eqb (getD (c .args .sources .now) j 0) (getD (c .args .sources .now) k 0))) k))
 
-mul-new-source : tie.Need-mul-new-source Inv-loop μ-loop
-mul-new-source c = search needs
-
-element-copy-out-new-source : tie.Need-element-copy-out-new-source Inv-loop μ-loop
-element-copy-out-new-source c = search needs
-
-new-source-requires : tie.Need-new-source-requires Inv-loop μ-loop
-new-source-requires c κs = search needs
-
 returns : tie.Need-returns Inv-loop μ-loop
 unfolding apart
 returns c =
     let l = c .before .before .before .before in
     let a = l .before .args in
     one-failed (λ k. allBelow (λ j. not (eqb (getD (a .sources .now) j 0) (getD (a .sources .now) k 0))) k) (a .n) (l .loop .i) (omega arith) (sym (c .before .new-source .ensures) ∙ not-true _ (c .if1 .taken))
-
-add-i : tie.Need-add-i Inv-loop μ-loop
-add-i c = search needs
-
-loop-less : tie.Need-loop-less Inv-loop μ-loop
-loop-less c = search needs
 
 loop-again : tie.Need-loop-again Inv-loop μ-loop
 loop-again c =
@@ -63,11 +48,11 @@ sources-apart-spec =
     Inv-loop
     μ-loop
     loop-holds
-    mul-new-source
-    element-copy-out-new-source
-    new-source-requires
+    (λ c. search needs)
+    (λ c. search needs)
+    (λ c κs. search needs)
     returns
-    add-i
-    loop-less
+    (λ c. search needs)
+    (λ c. search needs)
     loop-again
     returns-2)

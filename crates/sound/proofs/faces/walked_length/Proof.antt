@@ -16,31 +16,16 @@ Inv-loop sources₀ arcs first f back start n₀ x₀ before₀ end₀ sources n
 abbrev μ-loop : tie.MeasureT-loop
 μ-loop sources₀ arcs first f back start n₀ x₀ before₀ end₀ sources n x before end = 64 - n
 
-known-places-requires : tie.Need-known-places-requires Inv-loop μ-loop
-known-places-requires c κs = search needs
-
-cell6-requires : tie.Need-cell6-requires Inv-loop μ-loop
-cell6-requires c κs = search needs
-
-cell6-requires-2 : tie.Need-cell6-requires-2 Inv-loop μ-loop
-cell6-requires-2 c κs = search needs
-
 loop-holds : tie.Need-loop-holds Inv-loop μ-loop
 loop-holds c =
     let a = c .before .before .before .before .args in
     (going-start (a .arcs .now) (a .first) (a .f) (a .sources .now) (c .before .cell6 .result) (c .cell62 .result) (c .before .before .known-places .ensures) (c .before .cell6 .ensures) (c .cell62 .ensures), (c .before .cell6 .ensures, c .cell62 .ensures))
-
-has-row-requires : tie.Need-has-row-requires Inv-loop μ-loop
-has-row-requires c κs = search needs
 
 returns : tie.Need-returns Inv-loop μ-loop
 returns c =
     let l = c .before .before .before in
     let a = l .before .before .before .before .before .args in
     past-out (a .arcs .now) (a .first) (a .f) (l .loop .sources) (l .loop .n) (l .loop .x) (l .loop .before) (l .loop .end) (l .loop .inv .0) (sym (c .before .has-row .ensures) ∙ not-true _ (c .if1 .taken))
-
-wide-requires : tie.Need-wide-requires Inv-loop μ-loop
-wide-requires c κs = search needs
 
 sub-row : tie.Need-sub-row Inv-loop μ-loop
 sub-row c =
@@ -60,35 +45,11 @@ shared-slice-copy-out-row c =
     let a = l .before .before .before .before .before .args in
     index-in (a .arcs .now) (l .loop .x) (c .wide .result) (c .wide .ensures) (sym (c .before .before .has-row .ensures) ∙ not-false _ (c .before .if1 .left))
 
-ring-row-requires : tie.Need-ring-row-requires Inv-loop μ-loop
-ring-row-requires c κs = search needs
-
 returns-2 : tie.Need-returns-2 Inv-loop μ-loop
 returns-2 c =
     let l = c .before .before .before .before .before .before .before in
     let a = l .before .before .before .before .before .args in
     row-out (a .arcs .now) (a .first) (a .f) (l .loop .sources) (l .loop .n) (l .loop .x) (l .loop .before) (l .loop .end) (l .loop .inv .0) (getD (a .arcs .now) (c .before .before .before .wide .result - 1) []) (row-cell (a .arcs .now) (l .loop .x) (c .before .before .before .wide .result) (c .before .before .before .wide .ensures) (sym (c .before .before .before .before .before .has-row .ensures) ∙ not-false _ (c .before .before .before .before .if1 .left))) (sym (c .before .ring-row .ensures) ∙ not-true _ (c .if2 .taken))
-
-array-read-sources : tie.Need-array-read-sources Inv-loop μ-loop
-array-read-sources c = search needs
-
-mul-sources : tie.Need-mul-sources Inv-loop μ-loop
-mul-sources c = search needs
-
-element-write-sources : tie.Need-element-write-sources Inv-loop μ-loop
-element-write-sources c = search needs
-
-add-n : tie.Need-add-n Inv-loop μ-loop
-add-n c = search needs
-
-array-read-end : tie.Need-array-read-end Inv-loop μ-loop
-array-read-end c = search needs
-
-array-read-x : tie.Need-array-read-x Inv-loop μ-loop
-array-read-x c = search needs
-
-meets-first-requires : tie.Need-meets-first-requires Inv-loop μ-loop
-meets-first-requires c κs = search needs
 
 returns-3 : tie.Need-returns-3 Inv-loop μ-loop
 returns-3 c =
@@ -96,26 +57,17 @@ returns-3 c =
     let a = l .before .before .before .before .before .args in
     met-out (a .arcs .now) (a .first) (a .f) (l .loop .sources) (l .loop .n) (l .loop .x) (l .loop .before) (l .loop .end) (l .loop .inv .0) (getD (a .arcs .now) (c .before .before .before .before .before .before .wide .result - 1) []) (row-cell (a .arcs .now) (l .loop .x) (c .before .before .before .before .before .before .wide .result) (c .before .before .before .before .before .before .wide .ensures) (sym (c .before .before .before .before .before .before .before .before .has-row .ensures) ∙ not-false _ (c .before .before .before .before .before .before .before .if1 .left))) (omega arith) (sym (c .before .before .before .before .ring-row .ensures) ∙ not-false _ (c .before .before .before .if2 .left)) (c .before .before .before .before .before .before .before .before .before .before .before .before .cell6 .result) (c .before .before .before .before .before .before .before .before .before .before .before .cell62 .result) (l .loop .inv .1 .0) (l .loop .inv .1 .1) (c .before .before .if3 .taken) (sym (c .before .meets-first .ensures) ∙ not-true _ (c .if4 .taken))
 
-sources-apart-requires : tie.Need-sources-apart-requires Inv-loop μ-loop
-sources-apart-requires c κs = search needs
-
 returns-4 : tie.Need-returns-4 Inv-loop μ-loop
 returns-4 c =
     let l = c .before .before .before .before .before .before .before .before .before .before .before .before .before in
     let a = l .before .before .before .before .before .args in
     apart-out (a .arcs .now) (a .first) (a .f) (l .loop .sources) (l .loop .n) (l .loop .x) (l .loop .before) (l .loop .end) (l .loop .inv .0) (getD (a .arcs .now) (c .before .before .before .before .before .before .before .before .before .wide .result - 1) []) (row-cell (a .arcs .now) (l .loop .x) (c .before .before .before .before .before .before .before .before .before .wide .result) (c .before .before .before .before .before .before .before .before .before .wide .ensures) (sym (c .before .before .before .before .before .before .before .before .before .before .before .has-row .ensures) ∙ not-false _ (c .before .before .before .before .before .before .before .before .before .before .if1 .left))) (omega arith) (sym (c .before .before .before .before .before .before .before .ring-row .ensures) ∙ not-false _ (c .before .before .before .before .before .before .if2 .left)) (c .before .before .before .before .before .before .before .before .before .before .before .before .before .before .before .cell6 .result) (c .before .before .before .before .before .before .before .before .before .before .before .before .before .before .cell62 .result) (l .loop .inv .1 .0) (l .loop .inv .1 .1) (c .before .before .before .before .before .if3 .taken) (sym (c .before .sources-apart .ensures) ∙ not-true _ (c .if5 .taken))
 
-three-or-none-requires : tie.Need-three-or-none-requires Inv-loop μ-loop
-three-or-none-requires c κs = search needs
-
 returns-5 : tie.Need-returns-5 Inv-loop μ-loop
 returns-5 c =
     let l = c .before .before .before .before .before .before .before .before .before .before .before .before .before .before in
     let a = l .before .before .before .before .before .args in
     λ m ea ef. c .three-or-none .ensures ∙ back-out (a .arcs .now) (a .first) (a .f) (l .loop .sources) (l .loop .n) (l .loop .x) (l .loop .before) (l .loop .end) (l .loop .inv .0) (getD (a .arcs .now) (c .before .before .before .before .before .before .before .before .before .before .wide .result - 1) []) (row-cell (a .arcs .now) (l .loop .x) (c .before .before .before .before .before .before .before .before .before .before .wide .result) (c .before .before .before .before .before .before .before .before .before .before .wide .ensures) (sym (c .before .before .before .before .before .before .before .before .before .before .before .before .has-row .ensures) ∙ not-false _ (c .before .before .before .before .before .before .before .before .before .before .before .if1 .left))) (omega arith) (sym (c .before .before .before .before .before .before .before .before .ring-row .ensures) ∙ not-false _ (c .before .before .before .before .before .before .before .if2 .left)) (c .before .before .before .before .before .before .before .before .before .before .before .before .before .before .before .before .cell6 .result) (c .before .before .before .before .before .before .before .before .before .before .before .before .before .before .before .cell62 .result) (l .loop .inv .1 .0) (l .loop .inv .1 .1) (c .before .before .before .before .before .before .if3 .taken) (sym (c .before .before .before .before .before .meets-first .ensures) ∙ not-false _ (c .before .before .before .before .if4 .left)) (sym (c .before .before .sources-apart .ensures) ∙ not-false _ (c .before .if5 .left)) m ea ef
-
-loop-less : tie.Need-loop-less Inv-loop μ-loop
-loop-less c = search needs
 
 loop-again : tie.Need-loop-again Inv-loop μ-loop
 loop-again c =
@@ -135,30 +87,30 @@ walked-length-spec =
     (tie.spec
     Inv-loop
     μ-loop
-    known-places-requires
-    cell6-requires
-    cell6-requires-2
+    (λ c κs. search needs)
+    (λ c κs. search needs)
+    (λ c κs. search needs)
     loop-holds
-    has-row-requires
+    (λ c κs. search needs)
     returns
-    wide-requires
+    (λ c κs. search needs)
     sub-row
     mul-row
     shared-slice-copy-out-row
-    ring-row-requires
+    (λ c κs. search needs)
     returns-2
-    array-read-sources
-    mul-sources
-    element-write-sources
-    add-n
-    array-read-end
-    array-read-x
-    meets-first-requires
+    (λ c. search needs)
+    (λ c. search needs)
+    (λ c. search needs)
+    (λ c. search needs)
+    (λ c. search needs)
+    (λ c. search needs)
+    (λ c κs. search needs)
     returns-3
-    sources-apart-requires
+    (λ c κs. search needs)
     returns-4
-    three-or-none-requires
+    (λ c κs. search needs)
     returns-5
-    loop-less
+    (λ c. search needs)
     loop-again
     returns-6)

@@ -19,24 +19,6 @@ abbrev μ-loop : tie.MeasureT-loop
 loop-holds : tie.Need-loop-holds Inv-loop μ-loop
 loop-holds c = let a = c .args in (search needs, λ e. no-rows _ (a .i) (a .i + 0) (omega arith))
 
-add-holds-some : tie.Need-add-holds-some Inv-loop μ-loop
-add-holds-some c = search needs
-
-mul-holds-some : tie.Need-mul-holds-some Inv-loop μ-loop
-mul-holds-some c = search needs
-
-shared-slice-copy-out-holds-some : tie.Need-shared-slice-copy-out-holds-some Inv-loop μ-loop
-shared-slice-copy-out-holds-some c = search needs
-
-holds-some-requires : tie.Need-holds-some-requires Inv-loop μ-loop
-holds-some-requires c κs = search needs
-
-add-k : tie.Need-add-k Inv-loop μ-loop
-add-k c = search needs
-
-loop-less : tie.Need-loop-less Inv-loop μ-loop
-loop-less c = search needs
-
 loop-again : tie.Need-loop-again Inv-loop μ-loop
 loop-again c =
     let l = c .before .before .before in
@@ -56,11 +38,11 @@ block-holds-spec =
     Inv-loop
     μ-loop
     loop-holds
-    add-holds-some
-    mul-holds-some
-    shared-slice-copy-out-holds-some
-    holds-some-requires
-    add-k
-    loop-less
+    (λ c. search needs)
+    (λ c. search needs)
+    (λ c. search needs)
+    (λ c κs. search needs)
+    (λ c. search needs)
+    (λ c. search needs)
     loop-again
     returns)

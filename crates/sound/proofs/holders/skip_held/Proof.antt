@@ -5,12 +5,6 @@ use borrow.Author.Needs.{needs}
 use Rattle.sound.proofs.holders.skip_held.Statement.{statement}
 use Rattle.sound.proofs.holders.skip_held.Tie as tie
 
-skip-blocks-requires : tie.Need-skip-blocks-requires
-skip-blocks-requires c κs = search needs
-
-skip-rows-requires : tie.Need-skip-rows-requires
-skip-rows-requires c κs = search needs
-
 returns : tie.Need-returns
 returns c =
     let b = c .before .skip-blocks in
@@ -19,4 +13,4 @@ returns c =
     (omega (arith, b .ensures .0, r .ensures .0), (r .ensures .1 .0, join-runs _ (a .from) (b .result) (r .result) (b .ensures .1 .1) (r .ensures .1 .1)))
 
 pub skip-held-spec : {M : Type 1} → statement M
-skip-held-spec = tie.close (tie.spec skip-blocks-requires skip-rows-requires returns)
+skip-held-spec = tie.close (tie.spec (λ c κs. search needs) (λ c κs. search needs) returns)

@@ -18,23 +18,8 @@ abbrev μ-loop : tie.MeasureT-loop
 loop-holds : tie.Need-loop-holds Inv-loop μ-loop
 loop-holds c = let a = c .args in (search needs, (search needs, no-rows _ (a .from) (a .from) (search needs)))
 
-mul-holds-some : tie.Need-mul-holds-some Inv-loop μ-loop
-mul-holds-some c = search needs
-
-shared-slice-copy-out-holds-some : tie.Need-shared-slice-copy-out-holds-some Inv-loop μ-loop
-shared-slice-copy-out-holds-some c = search needs
-
-holds-some-requires : tie.Need-holds-some-requires Inv-loop μ-loop
-holds-some-requires c κs = search needs
-
 returns : tie.Need-returns Inv-loop μ-loop
 returns c = c .before .before .before .before .loop .inv
-
-add-i : tie.Need-add-i Inv-loop μ-loop
-add-i c = search needs
-
-loop-less : tie.Need-loop-less Inv-loop μ-loop
-loop-less c = search needs
 
 loop-again : tie.Need-loop-again Inv-loop μ-loop
 loop-again c =
@@ -53,11 +38,11 @@ skip-rows-spec =
     Inv-loop
     μ-loop
     loop-holds
-    mul-holds-some
-    shared-slice-copy-out-holds-some
-    holds-some-requires
+    (λ c. search needs)
+    (λ c. search needs)
+    (λ c κs. search needs)
     returns
-    add-i
-    loop-less
+    (λ c. search needs)
+    (λ c. search needs)
     loop-again
     returns-2)

@@ -8,12 +8,6 @@ use Rattle.sound.proofs.keys.differ2.Tie as tie
 returns : tie.Need-returns
 returns c = λ s. keys-rise (c .before .args .t .now) (c .before .pre (c .if1 .taken))
 
-key-names2-requires : tie.Need-key-names2-requires
-key-names2-requires c κs = search needs
-
-names-differ-requires : tie.Need-names-differ-requires
-names-differ-requires c κs = search needs
-
 returns-2 : tie.Need-returns-2
 returns-2 c =
     let a = c .before .before .before .before .before .args in
@@ -21,4 +15,4 @@ returns-2 c =
     λ s. c .names-differ .ensures s ∙ keys-differ (a .t .now) (k .last .0) (k .ensures (omega arith))
 
 pub differ2-spec : {M : Type 1} → statement M
-differ2-spec = tie.close (tie.spec returns key-names2-requires names-differ-requires returns-2)
+differ2-spec = tie.close (tie.spec returns (λ c κs. search needs) (λ c κs. search needs) returns-2)

@@ -8,12 +8,6 @@ use Rattle.sound.proofs.keys.differ3.Tie as tie
 returns : tie.Need-returns
 returns c = λ s. keys-rise (c .before .args .t .now) (c .before .pre (c .if1 .taken))
 
-key-names3-requires : tie.Need-key-names3-requires
-key-names3-requires c κs = search needs
-
-names-differ-requires : tie.Need-names-differ-requires
-names-differ-requires c κs = search needs
-
 returns-2 : tie.Need-returns-2
 returns-2 c =
     let a = c .before .before .before .before .before .args in
@@ -21,4 +15,4 @@ returns-2 c =
     λ s. c .names-differ .ensures s ∙ keys-differ (a .t .now) (k .last .0) (k .ensures (omega arith))
 
 pub differ3-spec : {M : Type 1} → statement M
-differ3-spec = tie.close (tie.spec returns key-names3-requires names-differ-requires returns-2)
+differ3-spec = tie.close (tie.spec returns (λ c κs. search needs) (λ c κs. search needs) returns-2)

@@ -8,12 +8,9 @@ returns : tie.Need-returns
 unfolding keyTest
 returns c = rw (eq-eqb _ _ (c .if1 .taken))
 
-sub-result : tie.Need-sub-result
-sub-result c = search needs
-
 returns-2 : tie.Need-returns-2
 unfolding keyTest
 returns-2 c = rw (ne-eqb _ _ (c .if1 .left))
 
 pub key-below-spec : {M : Type 1} → statement M
-key-below-spec = tie.close (tie.spec returns sub-result returns-2)
+key-below-spec = tie.close (tie.spec returns (λ c. search needs) returns-2)

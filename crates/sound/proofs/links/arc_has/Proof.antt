@@ -4,20 +4,11 @@ use borrow.Author.Needs.{needs}
 use Rattle.sound.proofs.links.arc_has.Statement.{statement}
 use Rattle.sound.proofs.links.arc_has.Tie as tie
 
-cell6-requires : tie.Need-cell6-requires
-cell6-requires c κs = search needs
-
 returns : tie.Need-returns
 returns c = rw (eq-eqb _ _ (sym (c .before .cell6 .ensures) ∙ c .if1 .taken))
-
-cell6-requires-2 : tie.Need-cell6-requires-2
-cell6-requires-2 c κs = search needs
-
-wide-requires : tie.Need-wide-requires
-wide-requires c κs = search needs
 
 returns-2 : tie.Need-returns-2
 returns-2 c = rw (ne-eqb _ _ (λ q. c .before .before .if1 .left (c .before .before .before .cell6 .ensures ∙ q)), c .wide .ensures, c .before .cell62 .ensures)
 
 pub arc-has-spec : {M : Type 1} → statement M
-arc-has-spec = tie.close (tie.spec cell6-requires returns cell6-requires-2 wide-requires returns-2)
+arc-has-spec = tie.close (tie.spec (λ c κs. search needs) returns (λ c κs. search needs) (λ c κs. search needs) returns-2)

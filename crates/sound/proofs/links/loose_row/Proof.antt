@@ -5,22 +5,13 @@ use borrow.Author.Needs.{needs}
 use Rattle.sound.proofs.links.loose_row.Statement.{statement}
 use Rattle.sound.proofs.links.loose_row.Tie as tie
 
-array-read-if1 : tie.Need-array-read-if1
-array-read-if1 c = search needs
-
 returns : tie.Need-returns
 unfolding looseRow
 returns c = rw (ne-eqb _ _ (c .if1 .taken))
 
-next-row-requires : tie.Need-next-row-requires
-next-row-requires c κs = search needs
-
 returns-2 : tie.Need-returns-2
 unfolding looseRow
 returns-2 c = rw (eq-eqb _ _ (c .before .before .if1 .left), sym (c .before .next-row .ensures) ∙ not-true _ (c .if2 .taken))
-
-previous-row-requires : tie.Need-previous-row-requires
-previous-row-requires c κs = search needs
 
 returns-3 : tie.Need-returns-3
 unfolding looseRow
@@ -29,4 +20,4 @@ returns-3 c = rw (eq-eqb _ _ (c .before .before .before .if1 .left), sym (c .bef
 pub loose-row-spec : {M : Type 1} → statement M
 loose-row-spec =
     tie.close
-    (tie.spec array-read-if1 returns next-row-requires returns-2 previous-row-requires returns-3)
+    (tie.spec (λ c. search needs) returns (λ c κs. search needs) returns-2 (λ c κs. search needs) returns-3)

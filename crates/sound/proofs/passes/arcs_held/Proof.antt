@@ -27,30 +27,6 @@ abbrev μ-loop : tie.MeasureT-loop
 loop-holds : tie.Need-loop-holds Inv-loop μ-loop
 loop-holds c = (search needs, (search needs, (none-yet (λ j. arcTest (c .args .arcs .now) (getD (c .args .arcs .now) j [])), (search needs, search needs))))
 
-mul-holds-some : tie.Need-mul-holds-some Inv-loop μ-loop
-mul-holds-some c = search needs
-
-shared-slice-copy-out-holds-some : tie.Need-shared-slice-copy-out-holds-some Inv-loop μ-loop
-shared-slice-copy-out-holds-some c = search needs
-
-holds-some-requires : tie.Need-holds-some-requires Inv-loop μ-loop
-holds-some-requires c κs = search needs
-
-add-skip-held : tie.Need-add-skip-held Inv-loop μ-loop
-add-skip-held c = search needs
-
-skip-held-requires : tie.Need-skip-held-requires Inv-loop μ-loop
-skip-held-requires c κs = search needs
-
-sub-held : tie.Need-sub-held Inv-loop μ-loop
-sub-held c = search needs
-
-add-held : tie.Need-add-held Inv-loop μ-loop
-add-held c = search needs
-
-loop-less : tie.Need-loop-less Inv-loop μ-loop
-loop-less c = search needs
-
 loop-again : tie.Need-loop-again Inv-loop μ-loop
 loop-again c =
     let l = c .before .before .before .before .before in
@@ -60,38 +36,11 @@ loop-again c =
     let i = l .loop .inv in
     (s .ensures .1 .0, (omega (arith, i .1 .0, s .ensures .0), told-run (a .arcs .now) (l .loop .held) (l .loop .loose) (l .loop .i) (s .result) e (s .ensures) (i .1 .1)))
 
-mul-arc-row : tie.Need-mul-arc-row Inv-loop μ-loop
-mul-arc-row c = search needs
-
-shared-slice-copy-out-arc-row : tie.Need-shared-slice-copy-out-arc-row Inv-loop μ-loop
-shared-slice-copy-out-arc-row c = search needs
-
-arc-row-requires : tie.Need-arc-row-requires Inv-loop μ-loop
-arc-row-requires c κs = search needs
-
 returns : tie.Need-returns Inv-loop μ-loop
 returns c =
     let l = c .before .before .before .before .before .before .before in
     let a = l .before .args in
     λ v p e f k q. rw (arcs-fail (mesh v p (a .arcs .now) e f k) (l .loop .i) (omega arith) (sym (c .before .arc-row .ensures) ∙ not-true _ (c .if2 .taken)))
-
-mul-plus : tie.Need-mul-plus Inv-loop μ-loop
-mul-plus c = search needs
-
-index-1-plus : tie.Need-index-1-plus Inv-loop μ-loop
-index-1-plus c = search needs
-
-index-2-plus : tie.Need-index-2-plus Inv-loop μ-loop
-index-2-plus c = search needs
-
-plus-requires : tie.Need-plus-requires Inv-loop μ-loop
-plus-requires c κs = search needs
-
-add-i : tie.Need-add-i Inv-loop μ-loop
-add-i c = search needs
-
-loop-less-2 : tie.Need-loop-less-2 Inv-loop μ-loop
-loop-less-2 c = search needs
 
 loop-again-2 : tie.Need-loop-again-2 Inv-loop μ-loop
 loop-again-2 c =
@@ -107,17 +56,11 @@ loop-again-2 c =
     let held-on = counted-none holdsSome (a .arcs .now) [] (l .loop .held) (l .loop .i) h e (i .1 .1 .1 .1) in
     (search needs, (one-up (used r) (l .loop .held + l .loop .loose) (l .loop .i) (l .loop .held + c .plus .result) (i .1 .0) up, (on, (arcs-on, held-on))))
 
-add-if3 : tie.Need-add-if3 Inv-loop μ-loop
-add-if3 c = search needs
-
 returns-2 : tie.Need-returns-2 Inv-loop μ-loop
 returns-2 c =
     let l = c .before .before in
     let a = l .before .args in
     λ v p e f k q. rw (arcs-other (mesh v p (a .arcs .now) e f k) (l .loop .held + l .loop .loose) (a .named) (counted-all used (a .arcs .now) [] (l .loop .held + l .loop .loose) (l .loop .i) (c .before .loop-test .left) (l .loop .inv .1 .1 .1 .0)) q (l .loop .i) (omega arith) (omega arith) (l .loop .inv .1 .1 .0) (c .if3 .taken))
-
-add-result : tie.Need-add-result Inv-loop μ-loop
-add-result c = search needs
 
 returns-3 : tie.Need-returns-3 Inv-loop μ-loop
 returns-3 c =
@@ -133,27 +76,27 @@ arcs-held-spec =
     Inv-loop
     μ-loop
     loop-holds
-    mul-holds-some
-    shared-slice-copy-out-holds-some
-    holds-some-requires
-    add-skip-held
-    skip-held-requires
-    sub-held
-    add-held
-    loop-less
+    (λ c. search needs)
+    (λ c. search needs)
+    (λ c κs. search needs)
+    (λ c. search needs)
+    (λ c κs. search needs)
+    (λ c. search needs)
+    (λ c. search needs)
+    (λ c. search needs)
     loop-again
-    mul-arc-row
-    shared-slice-copy-out-arc-row
-    arc-row-requires
+    (λ c. search needs)
+    (λ c. search needs)
+    (λ c κs. search needs)
     returns
-    mul-plus
-    index-1-plus
-    index-2-plus
-    plus-requires
-    add-i
-    loop-less-2
+    (λ c. search needs)
+    (λ c. search needs)
+    (λ c. search needs)
+    (λ c κs. search needs)
+    (λ c. search needs)
+    (λ c. search needs)
     loop-again-2
-    add-if3
+    (λ c. search needs)
     returns-2
-    add-result
+    (λ c. search needs)
     returns-3)

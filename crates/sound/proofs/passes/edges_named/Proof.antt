@@ -27,86 +27,11 @@ abbrev μ-loop : tie.MeasureT-loop
 loop-holds : tie.Need-loop-holds Inv-loop μ-loop
 loop-holds c = (search needs, (search needs, (search needs, (none-yet (λ j. edgeTest (c .before .args .vertices .now) (c .before .args .arcs .now) (getD (c .before .args .counters .now) 1 0) (getD (c .before .args .edges .now) j []) (j + 1)), (search needs, (search needs, risen-none (c .before .args .edges .now)))))))
 
-element-copy-out-edge-row : tie.Need-element-copy-out-edge-row Inv-loop μ-loop
-element-copy-out-edge-row c = search needs
-
-mul-edge-row : tie.Need-mul-edge-row Inv-loop μ-loop
-mul-edge-row c = search needs
-
-shared-slice-copy-out-edge-row : tie.Need-shared-slice-copy-out-edge-row Inv-loop μ-loop
-shared-slice-copy-out-edge-row c = search needs
-
-add-edge-row : tie.Need-add-edge-row Inv-loop μ-loop
-add-edge-row c = search needs
-
-edge-row-requires : tie.Need-edge-row-requires Inv-loop μ-loop
-edge-row-requires c κs = search needs
-
-same-length : tie.Need-same-length Inv-loop μ-loop
-same-length c = search needs
-
 returns : tie.Need-returns Inv-loop μ-loop
 returns c =
     let l = c .before .before .before .before .before in
     let a = l .before .before .args in
     (λ p f. rw (edges-rows (mesh (a .vertices .now) p (a .arcs .now) (a .edges .now) f (a .counters .now)) ∙ sym (one-failed (λ j. edgeTest (a .vertices .now) (a .arcs .now) (getD (a .counters .now) 1 0) (getD (a .edges .now) j []) (j + 1)) (length (a .edges .now)) (l .loop .i) (omega arith) (sym (c .before .edge-row .ensures) ∙ not-true _ (c .if1 .taken)))), λ n. absurd (n refl), λ e. absurd (true-T e))
-
-mul-edge-name : tie.Need-mul-edge-name Inv-loop μ-loop
-mul-edge-name c = search needs
-
-shared-slice-copy-out-edge-name : tie.Need-shared-slice-copy-out-edge-name Inv-loop μ-loop
-shared-slice-copy-out-edge-name c = search needs
-
-edge-name-requires : tie.Need-edge-name-requires Inv-loop μ-loop
-edge-name-requires c κs = search needs
-
-mul-names : tie.Need-mul-names Inv-loop μ-loop
-mul-names c = search needs
-
-slice-write-names : tie.Need-slice-write-names Inv-loop μ-loop
-slice-write-names c = search needs
-
-mul-plus : tie.Need-mul-plus Inv-loop μ-loop
-mul-plus c = search needs
-
-index-1-plus : tie.Need-index-1-plus Inv-loop μ-loop
-index-1-plus c = search needs
-
-index-2-plus : tie.Need-index-2-plus Inv-loop μ-loop
-index-2-plus c = search needs
-
-plus-requires : tie.Need-plus-requires Inv-loop μ-loop
-plus-requires c κs = search needs
-
-mul-still-rising : tie.Need-mul-still-rising Inv-loop μ-loop
-mul-still-rising c = search needs
-
-index-1-still-rising : tie.Need-index-1-still-rising Inv-loop μ-loop
-index-1-still-rising c = search needs
-
-index-2-still-rising : tie.Need-index-2-still-rising Inv-loop μ-loop
-index-2-still-rising c = search needs
-
-still-rising-requires : tie.Need-still-rising-requires Inv-loop μ-loop
-still-rising-requires c κs = search needs
-
-mul-or-last : tie.Need-mul-or-last Inv-loop μ-loop
-mul-or-last c = search needs
-
-index-1-or-last : tie.Need-index-1-or-last Inv-loop μ-loop
-index-1-or-last c = search needs
-
-index-2-or-last : tie.Need-index-2-or-last Inv-loop μ-loop
-index-2-or-last c = search needs
-
-or-last-requires : tie.Need-or-last-requires Inv-loop μ-loop
-or-last-requires c κs = search needs
-
-add-i : tie.Need-add-i Inv-loop μ-loop
-add-i c = search needs
-
-loop-less : tie.Need-loop-less Inv-loop μ-loop
-loop-less c = search needs
 
 loop-again : tie.Need-loop-again Inv-loop μ-loop
 loop-again c =
@@ -136,12 +61,6 @@ loop-again c =
       ),
     )
 
-add-there : tie.Need-add-there Inv-loop μ-loop
-add-there c = search needs
-
-same-length-2 : tie.Need-same-length-2 Inv-loop μ-loop
-same-length-2 c = search needs
-
 returns-2 : tie.Need-returns-2 Inv-loop μ-loop
 returns-2 c =
     let l = c .before in
@@ -159,33 +78,33 @@ edges-named-spec =
     Inv-loop
     μ-loop
     loop-holds
-    element-copy-out-edge-row
-    mul-edge-row
-    shared-slice-copy-out-edge-row
-    add-edge-row
-    edge-row-requires
-    same-length
+    (λ c. search needs)
+    (λ c. search needs)
+    (λ c. search needs)
+    (λ c. search needs)
+    (λ c κs. search needs)
+    (λ c. search needs)
     returns
-    mul-edge-name
-    shared-slice-copy-out-edge-name
-    edge-name-requires
-    mul-names
-    slice-write-names
-    mul-plus
-    index-1-plus
-    index-2-plus
-    plus-requires
-    mul-still-rising
-    index-1-still-rising
-    index-2-still-rising
-    still-rising-requires
-    mul-or-last
-    index-1-or-last
-    index-2-or-last
-    or-last-requires
-    add-i
-    loop-less
+    (λ c. search needs)
+    (λ c. search needs)
+    (λ c κs. search needs)
+    (λ c. search needs)
+    (λ c. search needs)
+    (λ c. search needs)
+    (λ c. search needs)
+    (λ c. search needs)
+    (λ c κs. search needs)
+    (λ c. search needs)
+    (λ c. search needs)
+    (λ c. search needs)
+    (λ c κs. search needs)
+    (λ c. search needs)
+    (λ c. search needs)
+    (λ c. search needs)
+    (λ c κs. search needs)
+    (λ c. search needs)
+    (λ c. search needs)
     loop-again
-    add-there
-    same-length-2
+    (λ c. search needs)
+    (λ c. search needs)
     returns-2)

@@ -18,32 +18,14 @@ Inv-loop vertices positions i₀ i = (i ≤ length positions) × Passed (λ j. p
 abbrev μ-loop : tie.MeasureT-loop
 μ-loop vertices positions i₀ i = length positions - i
 
-skip-placed-requires : tie.Need-skip-placed-requires Inv-loop μ-loop
-skip-placed-requires c κs = search needs
-
 loop-holds : tie.Need-loop-holds Inv-loop μ-loop
 loop-holds c = c .skip-placed .ensures
-
-mul-position-row : tie.Need-mul-position-row Inv-loop μ-loop
-mul-position-row c = search needs
-
-shared-slice-copy-out-position-row : tie.Need-shared-slice-copy-out-position-row Inv-loop μ-loop
-shared-slice-copy-out-position-row c = search needs
-
-position-row-requires : tie.Need-position-row-requires Inv-loop μ-loop
-position-row-requires c κs = search needs
 
 returns : tie.Need-returns Inv-loop μ-loop
 returns c =
     let l = c .before .before .before .before in
     let a = l .before .before .args in
     λ u e f k. one-failed (λ j. positionTest (a .vertices .now) (getD (a .positions .now) j []) (j + 1)) (length (a .positions .now)) (l .loop .i) (omega arith) (sym (c .before .position-row .ensures) ∙ not-true _ (c .if1 .taken)) ∙ sym (positions-rows (mesh (a .vertices .now) (a .positions .now) u e f k))
-
-add-i : tie.Need-add-i Inv-loop μ-loop
-add-i c = search needs
-
-loop-less : tie.Need-loop-less Inv-loop μ-loop
-loop-less c = search needs
 
 loop-again : tie.Need-loop-again Inv-loop μ-loop
 loop-again c =
@@ -63,13 +45,13 @@ positions-sound-spec =
     (tie.spec
     Inv-loop
     μ-loop
-    skip-placed-requires
+    (λ c κs. search needs)
     loop-holds
-    mul-position-row
-    shared-slice-copy-out-position-row
-    position-row-requires
+    (λ c. search needs)
+    (λ c. search needs)
+    (λ c κs. search needs)
     returns
-    add-i
-    loop-less
+    (λ c. search needs)
+    (λ c. search needs)
     loop-again
     returns-2)

@@ -6,28 +6,13 @@ use borrow.Author.Needs.{needs}
 use Rattle.sound.proofs.passes.vertex_row.Statement.{statement}
 use Rattle.sound.proofs.passes.vertex_row.Tie as tie
 
-array-read-if1 : tie.Need-array-read-if1
-array-read-if1 c = search needs
-
-blank2-requires : tie.Need-blank2-requires
-blank2-requires c κs = search needs
-
 returns : tie.Need-returns
 unfolding vertexTest keyTest leadsRow
 returns c = rw (eq-eqb _ _ (c .before .if1 .taken)) (c .blank2 .ensures ∙ sym (and-true _))
 
-array-read-key-below : tie.Need-array-read-key-below
-array-read-key-below c = search needs
-
-key-below-requires : tie.Need-key-below-requires
-key-below-requires c κs = search needs
-
 returns-2 : tie.Need-returns-2
 unfolding vertexTest
 returns-2 c = rw (used-blank _ (c .before .before .if1 .left), sym (c .before .key-below .ensures) ∙ not-true _ (c .if2 .taken))
-
-leads-row-requires : tie.Need-leads-row-requires
-leads-row-requires c κs = search needs
 
 returns-3 : tie.Need-returns-3
 unfolding vertexTest
@@ -37,11 +22,11 @@ pub vertex-row-spec : {M : Type 1} → statement M
 vertex-row-spec =
     tie.close
     (tie.spec
-    array-read-if1
-    blank2-requires
+    (λ c. search needs)
+    (λ c κs. search needs)
     returns
-    array-read-key-below
-    key-below-requires
+    (λ c. search needs)
+    (λ c κs. search needs)
     returns-2
-    leads-row-requires
+    (λ c κs. search needs)
     returns-3)

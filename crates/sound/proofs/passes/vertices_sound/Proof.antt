@@ -23,56 +23,11 @@ abbrev μ-loop : tie.MeasureT-loop
 loop-holds : tie.Need-loop-holds Inv-loop μ-loop
 loop-holds c = (search needs, (none-yet (λ j. vertexTest (c .args .arcs .now) (getD (c .args .counters .now) 0 0) (getD (c .args .vertices .now) j []) (j + 1)), risen-none (c .args .vertices .now)))
 
-element-copy-out-vertex-row : tie.Need-element-copy-out-vertex-row Inv-loop μ-loop
-element-copy-out-vertex-row c = search needs
-
-mul-vertex-row : tie.Need-mul-vertex-row Inv-loop μ-loop
-mul-vertex-row c = search needs
-
-shared-slice-copy-out-vertex-row : tie.Need-shared-slice-copy-out-vertex-row Inv-loop μ-loop
-shared-slice-copy-out-vertex-row c = search needs
-
-add-vertex-row : tie.Need-add-vertex-row Inv-loop μ-loop
-add-vertex-row c = search needs
-
-vertex-row-requires : tie.Need-vertex-row-requires Inv-loop μ-loop
-vertex-row-requires c κs = search needs
-
 returns : tie.Need-returns Inv-loop μ-loop
 returns c =
     let l = c .before .before .before .before .before in
     let a = l .before .args in
     (λ p e f. one-failed (λ j. vertexTest (a .arcs .now) (getD (a .counters .now) 0 0) (getD (a .vertices .now) j []) (j + 1)) (length (a .vertices .now)) (l .loop .i) (omega arith) (sym (c .before .vertex-row .ensures) ∙ not-true _ (c .if1 .taken)) ∙ sym (vertices-rows (mesh (a .vertices .now) p (a .arcs .now) e f (a .counters .now))), λ e. absurd (true-T e))
-
-mul-still-rising : tie.Need-mul-still-rising Inv-loop μ-loop
-mul-still-rising c = search needs
-
-index-1-still-rising : tie.Need-index-1-still-rising Inv-loop μ-loop
-index-1-still-rising c = search needs
-
-index-2-still-rising : tie.Need-index-2-still-rising Inv-loop μ-loop
-index-2-still-rising c = search needs
-
-still-rising-requires : tie.Need-still-rising-requires Inv-loop μ-loop
-still-rising-requires c κs = search needs
-
-mul-or-last : tie.Need-mul-or-last Inv-loop μ-loop
-mul-or-last c = search needs
-
-index-1-or-last : tie.Need-index-1-or-last Inv-loop μ-loop
-index-1-or-last c = search needs
-
-index-2-or-last : tie.Need-index-2-or-last Inv-loop μ-loop
-index-2-or-last c = search needs
-
-or-last-requires : tie.Need-or-last-requires Inv-loop μ-loop
-or-last-requires c κs = search needs
-
-add-i : tie.Need-add-i Inv-loop μ-loop
-add-i c = search needs
-
-loop-less : tie.Need-loop-less Inv-loop μ-loop
-loop-less c = search needs
 
 loop-again : tie.Need-loop-again Inv-loop μ-loop
 loop-again c =
@@ -100,21 +55,21 @@ vertices-sound-spec =
     Inv-loop
     μ-loop
     loop-holds
-    element-copy-out-vertex-row
-    mul-vertex-row
-    shared-slice-copy-out-vertex-row
-    add-vertex-row
-    vertex-row-requires
+    (λ c. search needs)
+    (λ c. search needs)
+    (λ c. search needs)
+    (λ c. search needs)
+    (λ c κs. search needs)
     returns
-    mul-still-rising
-    index-1-still-rising
-    index-2-still-rising
-    still-rising-requires
-    mul-or-last
-    index-1-or-last
-    index-2-or-last
-    or-last-requires
-    add-i
-    loop-less
+    (λ c. search needs)
+    (λ c. search needs)
+    (λ c. search needs)
+    (λ c κs. search needs)
+    (λ c. search needs)
+    (λ c. search needs)
+    (λ c. search needs)
+    (λ c κs. search needs)
+    (λ c. search needs)
+    (λ c. search needs)
     loop-again
     returns-2)

@@ -19,36 +19,6 @@ abbrev μ-loop : tie.MeasureT-loop
 loop-holds : tie.Need-loop-holds Inv-loop μ-loop
 loop-holds c = let a = c .args in (search needs, λ e. no-more (a .vertices .now) (a .positions .now) (a .i))
 
-add-place-row : tie.Need-add-place-row Inv-loop μ-loop
-add-place-row c = search needs
-
-mul-place-row : tie.Need-mul-place-row Inv-loop μ-loop
-mul-place-row c = search needs
-
-index-1-place-row : tie.Need-index-1-place-row Inv-loop μ-loop
-index-1-place-row c = search needs
-
-index-2-place-row : tie.Need-index-2-place-row Inv-loop μ-loop
-index-2-place-row c = search needs
-
-add-place-row-2 : tie.Need-add-place-row-2 Inv-loop μ-loop
-add-place-row-2 c = search needs
-
-mul-place-row-2 : tie.Need-mul-place-row-2 Inv-loop μ-loop
-mul-place-row-2 c = search needs
-
-shared-slice-copy-out-place-row : tie.Need-shared-slice-copy-out-place-row Inv-loop μ-loop
-shared-slice-copy-out-place-row c = search needs
-
-place-row-requires : tie.Need-place-row-requires Inv-loop μ-loop
-place-row-requires c κs = search needs
-
-add-k : tie.Need-add-k Inv-loop μ-loop
-add-k c = search needs
-
-loop-less : tie.Need-loop-less Inv-loop μ-loop
-loop-less c = search needs
-
 loop-again : tie.Need-loop-again Inv-loop μ-loop
 loop-again c =
     let l = c .before .before .before .before in
@@ -68,15 +38,15 @@ block-passes-spec =
     Inv-loop
     μ-loop
     loop-holds
-    add-place-row
-    mul-place-row
-    index-1-place-row
-    index-2-place-row
-    add-place-row-2
-    mul-place-row-2
-    shared-slice-copy-out-place-row
-    place-row-requires
-    add-k
-    loop-less
+    (λ c. search needs)
+    (λ c. search needs)
+    (λ c. search needs)
+    (λ c. search needs)
+    (λ c. search needs)
+    (λ c. search needs)
+    (λ c. search needs)
+    (λ c κs. search needs)
+    (λ c. search needs)
+    (λ c. search needs)
     loop-again
     returns)

@@ -19,36 +19,6 @@ abbrev μ-loop : tie.MeasureT-loop
 loop-holds : tie.Need-loop-holds Inv-loop μ-loop
 loop-holds c = let a = c .args in (search needs, λ e. no-more (a .vertices .now) (a .positions .now) (a .i))
 
-add-all : tie.Need-add-all Inv-loop μ-loop
-add-all c = search needs
-
-mul-all : tie.Need-mul-all Inv-loop μ-loop
-mul-all c = search needs
-
-index-1-all : tie.Need-index-1-all Inv-loop μ-loop
-index-1-all c = search needs
-
-index-2-all : tie.Need-index-2-all Inv-loop μ-loop
-index-2-all c = search needs
-
-add-finite-row : tie.Need-add-finite-row Inv-loop μ-loop
-add-finite-row c = search needs
-
-mul-finite-row : tie.Need-mul-finite-row Inv-loop μ-loop
-mul-finite-row c = search needs
-
-shared-slice-copy-out-finite-row : tie.Need-shared-slice-copy-out-finite-row Inv-loop μ-loop
-shared-slice-copy-out-finite-row c = search needs
-
-finite-row-requires : tie.Need-finite-row-requires Inv-loop μ-loop
-finite-row-requires c κs = search needs
-
-add-k : tie.Need-add-k Inv-loop μ-loop
-add-k c = search needs
-
-loop-less : tie.Need-loop-less Inv-loop μ-loop
-loop-less c = search needs
-
 loop-again : tie.Need-loop-again Inv-loop μ-loop
 loop-again c =
     let l = c .before .before .before .before in
@@ -68,15 +38,15 @@ block-used-spec =
     Inv-loop
     μ-loop
     loop-holds
-    add-all
-    mul-all
-    index-1-all
-    index-2-all
-    add-finite-row
-    mul-finite-row
-    shared-slice-copy-out-finite-row
-    finite-row-requires
-    add-k
-    loop-less
+    (λ c. search needs)
+    (λ c. search needs)
+    (λ c. search needs)
+    (λ c. search needs)
+    (λ c. search needs)
+    (λ c. search needs)
+    (λ c. search needs)
+    (λ c κs. search needs)
+    (λ c. search needs)
+    (λ c. search needs)
     loop-again
     returns)

@@ -21,26 +21,11 @@ abbrev μ-loop : tie.MeasureT-loop
 loop-holds : tie.Need-loop-holds Inv-loop μ-loop
 loop-holds c = (search needs, none-yet (λ j. not (leadless (getD (c .args .vertices .now) j []))))
 
-mul-leads : tie.Need-mul-leads Inv-loop μ-loop
-mul-leads c = search needs
-
-shared-slice-copy-out-leads : tie.Need-shared-slice-copy-out-leads Inv-loop μ-loop
-shared-slice-copy-out-leads c = search needs
-
-leads-requires : tie.Need-leads-requires Inv-loop μ-loop
-leads-requires c κs = search needs
-
 returns : tie.Need-returns Inv-loop μ-loop
 returns c =
     let l = c .before .before .before .before in
     let a = l .before .args in
     one-failed (λ j. not (leadless (getD (a .vertices .now) j []))) (length (a .vertices .now)) (l .loop .i) (omega arith) (sym (c .before .leads .ensures) ∙ not-true _ (c .if1 .taken)) ∙ sym (every-all (λ x. not (leadless x)) (a .vertices .now) [])
-
-add-i : tie.Need-add-i Inv-loop μ-loop
-add-i c = search needs
-
-loop-less : tie.Need-loop-less Inv-loop μ-loop
-loop-less c = search needs
 
 loop-again : tie.Need-loop-again Inv-loop μ-loop
 loop-again c =
@@ -61,11 +46,11 @@ all-lead-spec =
     Inv-loop
     μ-loop
     loop-holds
-    mul-leads
-    shared-slice-copy-out-leads
-    leads-requires
+    (λ c. search needs)
+    (λ c. search needs)
+    (λ c κs. search needs)
     returns
-    add-i
-    loop-less
+    (λ c. search needs)
+    (λ c. search needs)
     loop-again
     returns-2)

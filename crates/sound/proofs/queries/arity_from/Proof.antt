@@ -7,12 +7,6 @@ use borrow.Author.Needs.{needs}
 use Rattle.sound.proofs.queries.arity_from.Statement.{statement}
 use Rattle.sound.proofs.queries.arity_from.Tie as tie
 
-ring-requires : tie.Need-ring-requires
-ring-requires c κs = search needs
-
-narrow-requires : tie.Need-narrow-requires
-narrow-requires c κs = search needs
-
 returns : tie.Need-returns
 returns c =
     let a = c .before .before .before .args in
@@ -22,4 +16,4 @@ returns c =
     c .narrow .ensures (omega (arith, rl, ring-few m f)) ∙ sym rl
 
 pub arity-from-spec : {M : Type 1} → statement M
-arity-from-spec = tie.close (tie.spec ring-requires narrow-requires returns)
+arity-from-spec = tie.close (tie.spec (λ c κs. search needs) (λ c κs. search needs) returns)

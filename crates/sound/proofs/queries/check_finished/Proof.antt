@@ -4,9 +4,6 @@ use borrow.Author.Needs.{needs}
 use Rattle.sound.proofs.queries.check_finished.Statement.{statement}
 use Rattle.sound.proofs.queries.check_finished.Tie as tie
 
-all-lead-requires : tie.Need-all-lead-requires
-all-lead-requires c κs = search needs
-
 returns : tie.Need-returns
 unfolding checkFinished
 returns c = rw (sym (c .before .all-lead .ensures) ∙ c .if1 .taken)
@@ -16,4 +13,4 @@ unfolding checkFinished
 returns-2 c = rw (sym (c .before .all-lead .ensures) ∙ c .if1 .left)
 
 pub check-finished-spec : {M : Type 1} → statement M
-check-finished-spec = tie.close (tie.spec all-lead-requires returns returns-2)
+check-finished-spec = tie.close (tie.spec (λ c κs. search needs) returns returns-2)

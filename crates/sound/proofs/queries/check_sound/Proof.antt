@@ -4,9 +4,6 @@ use borrow.Author.Needs.{needs}
 use Rattle.sound.proofs.queries.check_sound.Statement.{statement}
 use Rattle.sound.proofs.queries.check_sound.Tie as tie
 
-is-sound-requires : tie.Need-is-sound-requires
-is-sound-requires c κs = search needs
-
 returns : tie.Need-returns
 unfolding checkSound
 returns c = rw (sym (c .before .is-sound .ensures) ∙ c .if1 .taken)
@@ -16,4 +13,4 @@ unfolding checkSound
 returns-2 c = rw (sym (c .before .is-sound .ensures) ∙ c .if1 .left)
 
 pub check-sound-spec : {M : Type 1} → statement M
-check-sound-spec = tie.close (tie.spec is-sound-requires returns returns-2)
+check-sound-spec = tie.close (tie.spec (λ c κs. search needs) returns returns-2)

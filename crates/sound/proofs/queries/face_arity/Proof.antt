@@ -9,25 +9,13 @@ use borrow.Author.Needs.{needs}
 use Rattle.sound.proofs.queries.face_arity.Statement.{statement}
 use Rattle.sound.proofs.queries.face_arity.Tie as tie
 
-is-sound-requires : tie.Need-is-sound-requires
-is-sound-requires c κs = search needs
-
 returns : tie.Need-returns
 unfolding faceArity
 returns c = rw (sym (c .before .is-sound .ensures) ∙ not-true _ (c .if1 .taken))
 
-find-key3-requires : tie.Need-find-key3-requires
-find-key3-requires c κs = search needs
-
 returns-2 : tie.Need-returns-2
 unfolding faceArity
 returns-2 c = rw (sym (c .before .before .before .is-sound .ensures) ∙ not-false _ (c .before .before .if1 .left), eq-eqb _ _ (sym (c .before .find-key3 .ensures) ∙ c .if2 .taken))
-
-cell3-requires : tie.Need-cell3-requires
-cell3-requires c κs = search needs
-
-arity-from-requires : tie.Need-arity-from-requires
-arity-from-requires c κs = search needs
 
 returns-3 : tie.Need-returns-3
 unfolding faceArity
@@ -41,10 +29,10 @@ pub face-arity-spec : {M : Type 1} → statement M
 face-arity-spec =
     tie.close
     (tie.spec
-    is-sound-requires
+    (λ c κs. search needs)
     returns
-    find-key3-requires
+    (λ c κs. search needs)
     returns-2
-    cell3-requires
-    arity-from-requires
+    (λ c κs. search needs)
+    (λ c κs. search needs)
     returns-3)

@@ -59,32 +59,20 @@ pairs c =
 
 -- ---- the answers
 
-within-limits-requires : tie.Need-within-limits-requires
-within-limits-requires c κs = search needs
-
 returns : tie.Need-returns
 returns c =
     let m = tables (c .before .before) in
     lacks m (withinLimits m) (λ t. parts m t .within-limits) (sym (c .before .within-limits .ensures (m .counters)) ∙ not-true _ (c .if1 .taken))
-
-vertices-sound-requires : tie.Need-vertices-sound-requires
-vertices-sound-requires c κs = search needs
 
 returns-2 : tie.Need-returns-2
 returns-2 c =
     let m = tables (c .before .before .before .before .before) in
     lacks m (verticesSound m) (vertices-of m) (sym (c .before .before .vertices-sound .ensures .0 (m .positions) (m .edges) (m .faces)) ∙ not-true _ (c .if2 .taken))
 
-positions-sound-requires : tie.Need-positions-sound-requires
-positions-sound-requires c κs = search needs
-
 returns-3 : tie.Need-returns-3
 returns-3 c =
     let m = tables (c .before .before .before .before .before .before .before) in
     lacks m (positionsSound m) (positions-of m) (sym (c .before .positions-sound .ensures (m .arcs) (m .edges) (m .faces) (m .counters)) ∙ not-true _ (c .if3 .taken))
-
-slice-aggregate-edges-named : tie.Need-slice-aggregate-edges-named
-slice-aggregate-edges-named c = search needs
 
 edges-named-requires : tie.Need-edges-named-requires
 edges-named-requires c κs =
@@ -96,9 +84,6 @@ returns-4 c =
     let m = tables (c .before .before .before .before .before .before .before .before .before .before .before .before) in
     let e = c .before .before .before .edges-named in
     lacks m (edgesSound m) (edges-of m) (used-none (edgesSound m) (m .edges) (e .result .there) (e .ensures .0 (m .positions) (m .faces)) (c .if4 .taken))
-
-sub-arcs-held : tie.Need-sub-arcs-held
-sub-arcs-held c = search needs
 
 mul-arcs-held : tie.Need-mul-arcs-held
 mul-arcs-held c =
@@ -116,9 +101,6 @@ returns-5 c =
     let a = c .before .arcs-held in
     lacks m (arcsSound m) (arcs-of m) (held-none (arcsSound m) (m .arcs) (a .result) (a .ensures (m .vertices) (m .positions) (m .edges) (m .faces) (m .counters) (omega (arith, edges (c .before .before .before) .1))) (c .if5 .taken))
 
-sub-rings-sound : tie.Need-sub-rings-sound
-sub-rings-sound c = search needs
-
 rings-sound-requires : tie.Need-rings-sound-requires
 rings-sound-requires c κs = arcs c .1
 
@@ -126,9 +108,6 @@ returns-6 : tie.Need-returns-6
 returns-6 c =
     let m = tables (c .before .before .before .before .before .before .before .before .before .before .before .before .before .before .before .before .before .before) in
     lacks m (facesSound m && ringsFull m) (faces-of m) (sym (c .before .before .rings-sound .ensures .0 (m .vertices) (m .positions) (m .edges)) ∙ not-true _ (c .if6 .taken))
-
-names-differ-requires : tie.Need-names-differ-requires
-names-differ-requires c κs = search needs
 
 returns-7 : tie.Need-returns-7
 returns-7 c =
@@ -148,23 +127,23 @@ pub is-sound-spec : {M : Type 1} → statement M
 is-sound-spec =
     tie.close
     (tie.spec
-    within-limits-requires
+    (λ c κs. search needs)
     returns
-    vertices-sound-requires
+    (λ c κs. search needs)
     returns-2
-    positions-sound-requires
+    (λ c κs. search needs)
     returns-3
-    slice-aggregate-edges-named
+    (λ c. search needs)
     edges-named-requires
     returns-4
-    sub-arcs-held
+    (λ c. search needs)
     mul-arcs-held
     arcs-held-requires
     returns-5
-    sub-rings-sound
+    (λ c. search needs)
     rings-sound-requires
     returns-6
-    names-differ-requires
+    (λ c κs. search needs)
     returns-7
     keys-differ-requires
     returns-8)

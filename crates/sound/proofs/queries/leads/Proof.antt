@@ -3,17 +3,11 @@ use borrow.Author.Needs.{needs}
 use Rattle.sound.proofs.queries.leads.Statement.{statement}
 use Rattle.sound.proofs.queries.leads.Tie as tie
 
-array-read-if1 : tie.Need-array-read-if1
-array-read-if1 c = search needs
-
 returns : tie.Need-returns
 returns c = rw (eq-eqb _ _ (c .if1 .taken))
-
-array-read-result : tie.Need-array-read-result
-array-read-result c = search needs
 
 returns-2 : tie.Need-returns-2
 returns-2 c = rw (ne-eqb _ _ (c .if1 .left))
 
 pub leads-spec : {M : Type 1} → statement M
-leads-spec = tie.close (tie.spec array-read-if1 returns array-read-result returns-2)
+leads-spec = tie.close (tie.spec (λ c. search needs) returns (λ c. search needs) returns-2)

@@ -6,14 +6,8 @@ use borrow.Author.Needs.{needs}
 use Rattle.sound.proofs.short.row_at.Statement.{statement}
 use Rattle.sound.proofs.short.row_at.Tie as tie
 
-has-row-requires : tie.Need-has-row-requires
-has-row-requires c κs = search needs
-
 returns : tie.Need-returns
 returns c = no-row (c .before .before .args .arcs .now) (c .before .before .args .x) (sym (c .before .has-row .ensures) ∙ not-true _ (c .if1 .taken))
-
-wide-requires : tie.Need-wide-requires
-wide-requires c κs = search needs
 
 sub-result : tie.Need-sub-result
 sub-result c =
@@ -39,9 +33,9 @@ pub row-at-spec : {M : Type 1} → statement M
 row-at-spec =
     tie.close
     (tie.spec
-    has-row-requires
+    (λ c κs. search needs)
     returns
-    wide-requires
+    (λ c κs. search needs)
     sub-result
     mul-result
     shared-slice-copy-out-result

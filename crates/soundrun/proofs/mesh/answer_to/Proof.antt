@@ -3,18 +3,6 @@ use borrow.Author.Needs.{needs}
 use Rattle.soundrun.proofs.mesh.answer_to.Statement.{statement}
 use Rattle.soundrun.proofs.mesh.answer_to.Tie as tie
 
-zero-set-requires : tie.Need-zero-set-requires
-zero-set-requires c κs = search needs
-
-apply-requires : tie.Need-apply-requires
-apply-requires c κs = search needs
-
-apply-requires-2 : tie.Need-apply-requires-2
-apply-requires-2 c κs = search needs
-
-checked-requires : tie.Need-checked-requires
-checked-requires c κs = search needs
-
 same-length : tie.Need-same-length
 same-length c =
     c .before .before .before .before .before .before .before .before .before .before .before .before .before .apply2 .kept .1 .1 .0 ∙ c .before .before .before .before .before .before .before .before .before .before .before .before .before .before .before .before .before .before .before .before .before .before .before .before .before .before .apply .kept .1 .1 .0 ∙ c .before .before .before .before .before .before .before .before .before .before .before .before .before .before .before .before .before .before .before .before .before .before .before .before .before .before .before .before .before .before .before .before .before .before .before .before .before .before .before .zero-set .kept .0
@@ -35,20 +23,17 @@ same-length-5 : tie.Need-same-length-5
 same-length-5 c =
     c .before .before .before .before .before .before .before .before .before .before .before .before .before .apply2 .kept .1 .1 .1 .1 .1 .1 .0 ∙ c .before .before .before .before .before .before .before .before .before .before .before .before .before .before .before .before .before .before .before .before .before .before .before .before .before .before .apply .kept .1 .1 .1 .1 .1 .1 .0 ∙ c .before .before .before .before .before .before .before .before .before .before .before .before .before .before .before .before .before .before .before .before .before .before .before .before .before .before .before .before .before .before .before .before .before .before .before .before .before .before .before .zero-set .kept .1 .1 .1 .1 .0
 
-returns : tie.Need-returns
-returns c = search needs
-
 pub answer-to-spec : {M : Type 1} → statement M
 answer-to-spec =
     tie.close
     (tie.spec
-    zero-set-requires
-    apply-requires
-    apply-requires-2
-    checked-requires
+    (λ c κs. search needs)
+    (λ c κs. search needs)
+    (λ c κs. search needs)
+    (λ c κs. search needs)
     same-length
     same-length-2
     same-length-3
     same-length-4
     same-length-5
-    returns)
+    (λ c. search needs))

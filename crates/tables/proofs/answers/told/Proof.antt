@@ -4,45 +4,6 @@ use Rattle.rules.specs.Step.{told}
 use Rattle.tables.proofs.answers.told.Statement.{statement}
 use Rattle.tables.proofs.answers.told.Tie as tie
 
-enum-known-a : tie.Need-enum-known-a
-enum-known-a c = search needs
-
-reply-requires : tie.Need-reply-requires
-reply-requires c κs = search needs
-
-enum-known-a-2 : tie.Need-enum-known-a-2
-enum-known-a-2 c = search needs
-
-reply-requires-2 : tie.Need-reply-requires-2
-reply-requires-2 c κs = search needs
-
-enum-known-a-3 : tie.Need-enum-known-a-3
-enum-known-a-3 c = search needs
-
-reply-requires-3 : tie.Need-reply-requires-3
-reply-requires-3 c κs = search needs
-
-enum-known-a-4 : tie.Need-enum-known-a-4
-enum-known-a-4 c = search needs
-
-reply-requires-4 : tie.Need-reply-requires-4
-reply-requires-4 c κs = search needs
-
-enum-told : tie.Need-enum-told
-enum-told c = search needs
-
-reply-requires-5 : tie.Need-reply-requires-5
-reply-requires-5 c κs = search needs
-
-enum-known-a-5 : tie.Need-enum-known-a-5
-enum-known-a-5 c = search needs
-
-number-of-requires : tie.Need-number-of-requires
-number-of-requires c κs = search needs
-
-reply-requires-6 : tie.Need-reply-requires-6
-reply-requires-6 c κs = search needs
-
 returns : tie.Need-returns
 unfolding told
 returns c = rw (c .before .before .a .given .1) (c .reply .ensures)
@@ -71,19 +32,19 @@ pub told-spec : {M : Type 1} → statement M
 told-spec =
     tie.close
     (tie.spec
-    enum-known-a
-    reply-requires
-    enum-known-a-2
-    reply-requires-2
-    enum-known-a-3
-    reply-requires-3
-    enum-known-a-4
-    reply-requires-4
-    enum-told
-    reply-requires-5
-    enum-known-a-5
-    number-of-requires
-    reply-requires-6
+    (λ c. search needs)
+    (λ c κs. search needs)
+    (λ c. search needs)
+    (λ c κs. search needs)
+    (λ c. search needs)
+    (λ c κs. search needs)
+    (λ c. search needs)
+    (λ c κs. search needs)
+    (λ c. search needs)
+    (λ c κs. search needs)
+    (λ c. search needs)
+    (λ c κs. search needs)
+    (λ c κs. search needs)
     returns
     returns-2
     returns-3

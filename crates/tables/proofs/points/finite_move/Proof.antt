@@ -6,24 +6,9 @@ use Rattle.rules.specs.Point.{finiteMove}
 use Rattle.tables.proofs.points.finite_move.Statement.{statement}
 use Rattle.tables.proofs.points.finite_move.Tie as tie
 
-enum-known-m : tie.Need-enum-known-m
-enum-known-m c = search needs
-
-finite-position-requires : tie.Need-finite-position-requires
-finite-position-requires c κs = search needs
-
-enum-known-m-2 : tie.Need-enum-known-m-2
-enum-known-m-2 c = search needs
-
-finite-position-requires-2 : tie.Need-finite-position-requires-2
-finite-position-requires-2 c κs = search needs
-
 returns : tie.Need-returns
 unfolding finiteMove
 returns c = rw (c .before .before .before .m2 .given .1, sym (c .before .finite-position2 .ensures) ∙ not-true _ (c .if1 .taken))
-
-finite-requires : tie.Need-finite-requires
-finite-requires c κs = search needs
 
 returns-2 : tie.Need-returns-2
 unfolding finiteMove
@@ -37,11 +22,11 @@ pub finite-move-spec : {M : Type 1} → statement M
 finite-move-spec =
     tie.close
     (tie.spec
-    enum-known-m
-    finite-position-requires
-    enum-known-m-2
-    finite-position-requires-2
+    (λ c. search needs)
+    (λ c κs. search needs)
+    (λ c. search needs)
+    (λ c κs. search needs)
     returns
-    finite-requires
+    (λ c κs. search needs)
     returns-2
     returns-3)

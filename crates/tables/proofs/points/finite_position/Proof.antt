@@ -6,22 +6,13 @@ use Rattle.rules.specs.Point.{finitePosition}
 use Rattle.tables.proofs.points.finite_position.Statement.{statement}
 use Rattle.tables.proofs.points.finite_position.Tie as tie
 
-finite-requires : tie.Need-finite-requires
-finite-requires c κs = search needs
-
 returns : tie.Need-returns
 unfolding finitePosition
 returns c = rw (sym (c .before .finite .ensures .0) ∙ not-true _ (c .if1 .taken))
 
-finite-requires-2 : tie.Need-finite-requires-2
-finite-requires-2 c κs = search needs
-
 returns-2 : tie.Need-returns-2
 unfolding finitePosition
 returns-2 c = rw (sym (c .before .before .before .finite .ensures .0) ∙ not-false _ (c .before .before .if1 .left), sym (c .before .finite2 .ensures .0) ∙ not-true _ (c .if2 .taken))
-
-finite-requires-3 : tie.Need-finite-requires-3
-finite-requires-3 c κs = search needs
 
 returns-3 : tie.Need-returns-3
 unfolding finitePosition
@@ -30,4 +21,4 @@ returns-3 c = rw (sym (c .before .before .before .before .finite .ensures .0) �
 pub finite-position-spec : {M : Type 1} → statement M
 finite-position-spec =
     tie.close
-    (tie.spec finite-requires returns finite-requires-2 returns-2 finite-requires-3 returns-3)
+    (tie.spec (λ c κs. search needs) returns (λ c κs. search needs) returns-2 (λ c κs. search needs) returns-3)

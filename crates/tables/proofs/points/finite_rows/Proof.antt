@@ -22,47 +22,11 @@ abbrev μ-loop : tie.MeasureT-loop
 loop-holds : tie.Need-loop-holds Inv-loop μ-loop
 loop-holds c = (search needs, below-none _)
 
-mul-t4 : tie.Need-mul-t4 Inv-loop μ-loop
-mul-t4 c = search needs
-
-index-1-t9 : tie.Need-index-1-t9 Inv-loop μ-loop
-index-1-t9 c = search needs
-
-index-2-t9 : tie.Need-index-2-t9 Inv-loop μ-loop
-index-2-t9 c = search needs
-
-mul-t10 : tie.Need-mul-t10 Inv-loop μ-loop
-mul-t10 c = search needs
-
-index-1-t14 : tie.Need-index-1-t14 Inv-loop μ-loop
-index-1-t14 c = search needs
-
-index-2-t14 : tie.Need-index-2-t14 Inv-loop μ-loop
-index-2-t14 c = search needs
-
-mul-t15 : tie.Need-mul-t15 Inv-loop μ-loop
-mul-t15 c = search needs
-
-index-1-t19 : tie.Need-index-1-t19 Inv-loop μ-loop
-index-1-t19 c = search needs
-
-index-2-t19 : tie.Need-index-2-t19 Inv-loop μ-loop
-index-2-t19 c = search needs
-
-finite-position-requires : tie.Need-finite-position-requires Inv-loop μ-loop
-finite-position-requires c κs = search needs
-
 returns : tie.Need-returns Inv-loop μ-loop
 unfolding finiteRow
 returns c =
     let l = c .before .before .before .before .before .before in
     sym (one-fails finiteRow (l .before .args .ps .now) [] (l .loop .i) (c .before .before .before .before .before .loop-test .taken) (sym (c .before .finite-position .ensures) ∙ not-true _ (c .if1 .taken)))
-
-add-i : tie.Need-add-i Inv-loop μ-loop
-add-i c = search needs
-
-loop-less : tie.Need-loop-less Inv-loop μ-loop
-loop-less c = search needs
 
 loop-again : tie.Need-loop-again Inv-loop μ-loop
 unfolding finiteRow
@@ -78,18 +42,18 @@ finite-rows-spec =
     Inv-loop
     μ-loop
     loop-holds
-    mul-t4
-    index-1-t9
-    index-2-t9
-    mul-t10
-    index-1-t14
-    index-2-t14
-    mul-t15
-    index-1-t19
-    index-2-t19
-    finite-position-requires
+    (λ c. search needs)
+    (λ c. search needs)
+    (λ c. search needs)
+    (λ c. search needs)
+    (λ c. search needs)
+    (λ c. search needs)
+    (λ c. search needs)
+    (λ c. search needs)
+    (λ c. search needs)
+    (λ c κs. search needs)
     returns
-    add-i
-    loop-less
+    (λ c. search needs)
+    (λ c. search needs)
     loop-again
     returns-2)

@@ -5,12 +5,6 @@ use Rattle.rules.specs.Point.{moved}
 use Rattle.tables.proofs.points.moved.Statement.{statement}
 use Rattle.tables.proofs.points.moved.Tie as tie
 
-enum-known-m : tie.Need-enum-known-m
-enum-known-m c = search needs
-
-enum-known-m-2 : tie.Need-enum-known-m-2
-enum-known-m-2 c = search needs
-
 returns : tie.Need-returns
 unfolding moved
 returns c = sym (ap (moved _) (c .before .before .before .before .m .given .1))
@@ -20,4 +14,4 @@ unfolding moved
 returns-2 c = sym (ap (moved _) (c .before .before .before .before .m2 .given .1))
 
 pub moved-spec : {M : Type 1} → statement M
-moved-spec = tie.close (tie.spec enum-known-m enum-known-m-2 returns returns-2)
+moved-spec = tie.close (tie.spec (λ c. search needs) (λ c. search needs) returns returns-2)

@@ -32,30 +32,6 @@ returns-2 c =
 loop-holds : tie.Need-loop-holds Inv-loop μ-loop
 loop-holds c = (search needs, below-none _)
 
-mul-if3 : tie.Need-mul-if3 Inv-loop μ-loop
-mul-if3 c = search needs
-
-index-1-if3 : tie.Need-index-1-if3 Inv-loop μ-loop
-index-1-if3 c = search needs
-
-index-2-if3 : tie.Need-index-2-if3 Inv-loop μ-loop
-index-2-if3 c = search needs
-
-mul-if4 : tie.Need-mul-if4 Inv-loop μ-loop
-mul-if4 c = search needs
-
-index-1-if4 : tie.Need-index-1-if4 Inv-loop μ-loop
-index-1-if4 c = search needs
-
-index-2-if4 : tie.Need-index-2-if4 Inv-loop μ-loop
-index-2-if4 c = search needs
-
-cast-result : tie.Need-cast-result Inv-loop μ-loop
-cast-result c = search needs
-
-add-result : tie.Need-add-result Inv-loop μ-loop
-add-result c = search needs
-
 returns-3 : tie.Need-returns-3 Inv-loop μ-loop
 unfolding arcBetween
 returns-3 c =
@@ -63,12 +39,6 @@ returns-3 c =
     let a = l .before .before .before .args in
     let here = joins-yes (a .a) (a .b) (getD (a .arcs .now) (l .loop .i) []) (c .before .before .if3 .taken) (c .if4 .taken) in
     rw (ne-eqb _ _ (l .before .before .if1 .left)) (into-found (joins (a .a) (a .b)) (a .arcs .now) [] (l .loop .i) (l .before .if2 .left) (c .before .before .before .before .loop-test .taken) (l .loop .inv .1) here)
-
-add-i : tie.Need-add-i Inv-loop μ-loop
-add-i c = search needs
-
-loop-less : tie.Need-loop-less Inv-loop μ-loop
-loop-less c = search needs
 
 loop-again : tie.Need-loop-again Inv-loop μ-loop
 loop-again c = (search needs, below-more _ _ (c .before .before .before .loop .inv .1) (⊎-elim (λ w. rw (eq-eqb _ _ (w .0 .taken), ne-eqb _ _ (w .2 .left))) (λ w. rw (ne-eqb _ _ (w .left))) (c .if3 .came)))
@@ -89,16 +59,16 @@ find-arc-spec =
     returns
     returns-2
     loop-holds
-    mul-if3
-    index-1-if3
-    index-2-if3
-    mul-if4
-    index-1-if4
-    index-2-if4
-    cast-result
-    add-result
+    (λ c. search needs)
+    (λ c. search needs)
+    (λ c. search needs)
+    (λ c. search needs)
+    (λ c. search needs)
+    (λ c. search needs)
+    (λ c. search needs)
+    (λ c. search needs)
     returns-3
-    add-i
-    loop-less
+    (λ c. search needs)
+    (λ c. search needs)
     loop-again
     returns-4)

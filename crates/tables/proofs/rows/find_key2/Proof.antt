@@ -9,29 +9,11 @@ use Rattle.tables.proofs.rows.find_key2.Tie as tie
 returns : tie.Need-returns
 returns c = key-large _ _ (c .if1 .taken)
 
-mul-holds-key : tie.Need-mul-holds-key
-mul-holds-key c = search needs
-
-index-1-holds-key : tie.Need-index-1-holds-key
-index-1-holds-key c = search needs
-
-index-2-holds-key : tie.Need-index-2-holds-key
-index-2-holds-key c = search needs
-
-holds-key-requires : tie.Need-holds-key-requires
-holds-key-requires c κs = search needs
-
-add-result : tie.Need-add-result
-add-result c = search needs
-
 returns-2 : tie.Need-returns-2
 returns-2 c =
     let s = c .before .before .before .before in
     let a = s .before .args in
     likely-found (a .t .now) (a .key) (s .if1 .left) (sym (c .before .holds-key .ensures) ∙ c .if3 .taken)
-
-scan-key2-requires : tie.Need-scan-key2-requires
-scan-key2-requires c κs = search needs
 
 returns-3 : tie.Need-returns-3
 returns-3 c =
@@ -45,11 +27,11 @@ find-key2-spec =
     tie.close
     (tie.spec
     returns
-    mul-holds-key
-    index-1-holds-key
-    index-2-holds-key
-    holds-key-requires
-    add-result
+    (λ c. search needs)
+    (λ c. search needs)
+    (λ c. search needs)
+    (λ c κs. search needs)
+    (λ c. search needs)
     returns-2
-    scan-key2-requires
+    (λ c κs. search needs)
     returns-3)

@@ -5,15 +5,6 @@ use Rattle.rules.specs.Mesh.{oppositeOf}
 use Rattle.tables.proofs.rows.opposite.Statement.{statement}
 use Rattle.tables.proofs.rows.opposite.Tie as tie
 
-cell6-requires : tie.Need-cell6-requires
-cell6-requires c κs = search needs
-
-cell3-requires : tie.Need-cell3-requires
-cell3-requires c κs = search needs
-
-cell3-requires-2 : tie.Need-cell3-requires-2
-cell3-requires-2 c κs = search needs
-
 returns : tie.Need-returns
 unfolding oppositeOf
 returns c = rw (← c .before .before .before .cell6 .ensures, ← c .before .before .cell3 .ensures, eq-eqb _ _ (c .before .if1 .taken)) (c .cell32 .ensures)
@@ -24,4 +15,4 @@ returns-2 c = rw (← c .before .before .cell6 .ensures, ← c .before .cell3 .e
 
 pub opposite-spec : {M : Type 1} → statement M
 opposite-spec =
-    tie.close (tie.spec cell6-requires cell3-requires cell3-requires-2 returns returns-2)
+    tie.close (tie.spec (λ c κs. search needs) (λ c κs. search needs) (λ c κs. search needs) returns returns-2)

@@ -7,38 +7,11 @@ use Rattle.tables.proofs.rows.put2.Tie as tie
 returns : tie.Need-returns
 returns c = put-none _ _ _ _ (c .if1 .taken)
 
-sub-i : tie.Need-sub-i
-sub-i c = search needs
-
 returns-2 : tie.Need-returns-2
 returns-2 c = put-past _ _ _ (c .before .if1 .left) _ (c .if2 .taken)
 
-mul-known2 : tie.Need-mul-known2
-mul-known2 c = search needs
-
-slice-copy-out-known2 : tie.Need-slice-copy-out-known2
-slice-copy-out-known2 c = search needs
-
-known2-requires : tie.Need-known2-requires
-known2-requires c κs = search needs
-
 returns-3 : tie.Need-returns-3
 returns-3 c = put-narrow _ _ _ (c .before .before .before .before .if1 .left) _ _ (c .before .known2 .ensures) (c .if3 .taken)
-
-mul-t : tie.Need-mul-t
-mul-t c = search needs
-
-mul-t-2 : tie.Need-mul-t-2
-mul-t-2 c = search needs
-
-index-1-t : tie.Need-index-1-t
-index-1-t c = search needs
-
-index-2-t : tie.Need-index-2-t
-index-2-t c = search needs
-
-same-length : tie.Need-same-length
-same-length c = search needs
 
 returns-4 : tie.Need-returns-4
 returns-4 c = put-here _ _ _ (c .before .before .before .before .if1 .left) _
@@ -48,15 +21,15 @@ put2-spec =
     tie.close
     (tie.spec
     returns
-    sub-i
+    (λ c. search needs)
     returns-2
-    mul-known2
-    slice-copy-out-known2
-    known2-requires
+    (λ c. search needs)
+    (λ c. search needs)
+    (λ c κs. search needs)
     returns-3
-    mul-t
-    mul-t-2
-    index-1-t
-    index-2-t
-    same-length
+    (λ c. search needs)
+    (λ c. search needs)
+    (λ c. search needs)
+    (λ c. search needs)
+    (λ c. search needs)
     returns-4)

@@ -14,35 +14,17 @@ Inv-loop to₀ i₀ to i = (length to ≡ length to₀) × ((i ≤ length to₀)
 abbrev μ-loop : tie.MeasureT-loop
 μ-loop to₀ i₀ to i = length to₀ - i
 
-skip2-requires : tie.Need-skip2-requires Inv-loop μ-loop
-skip2-requires c κs = search needs
-
 loop-holds : tie.Need-loop-holds Inv-loop μ-loop
 loop-holds c =
     let a = c .before .before .args in
     let z = c .skip2 .ensures in
     (refl, (z .0, fill-same (c .skip2 .result) (0 ∷ 0 ∷ []) [] (a .to .now) (z .0) (λ k q. z .1 k (search needs) q)))
 
-mul-t5 : tie.Need-mul-t5 Inv-loop μ-loop
-mul-t5 c = search needs
-
-slice-set-from-to : tie.Need-slice-set-from-to Inv-loop μ-loop
-slice-set-from-to c = search needs
-
-add-i : tie.Need-add-i Inv-loop μ-loop
-add-i c = search needs
-
-loop-less : tie.Need-loop-less Inv-loop μ-loop
-loop-less c = search needs
-
 loop-again : tie.Need-loop-again Inv-loop μ-loop
 loop-again c =
     let l = c .before in
     let a = l .before .before .before .args in
     (simp length-set (search needs), (search needs, rw (l .loop .inv .1 .1) (fill-more (l .loop .i) (0 ∷ 0 ∷ []) (a .to .now) (search needs))))
-
-same-length : tie.Need-same-length Inv-loop μ-loop
-same-length c = search needs
 
 returns : tie.Need-returns Inv-loop μ-loop
 returns c =
@@ -56,12 +38,12 @@ zero2-spec =
     (tie.spec
     Inv-loop
     μ-loop
-    skip2-requires
+    (λ c κs. search needs)
     loop-holds
-    mul-t5
-    slice-set-from-to
-    add-i
-    loop-less
+    (λ c. search needs)
+    (λ c. search needs)
+    (λ c. search needs)
+    (λ c. search needs)
     loop-again
-    same-length
+    (λ c. search needs)
     returns)

@@ -14,23 +14,11 @@ Inv-loop to₀ i₀ to i = (length to ≡ length to₀) × ((i ≤ length to₀)
 abbrev μ-loop : tie.MeasureT-loop
 μ-loop to₀ i₀ to i = length to₀ - i
 
-skip3-requires : tie.Need-skip3-requires Inv-loop μ-loop
-skip3-requires c κs = search needs
-
 loop-holds : tie.Need-loop-holds Inv-loop μ-loop
 loop-holds c =
     let a = c .before .before .args in
     let z = c .skip3 .ensures in
     (refl, (z .0, fill-same (c .skip3 .result) (0 ∷ 0 ∷ 0 ∷ []) [] (a .to .now) (z .0) (λ k q. z .1 k (search needs) q)))
-
-zero-cells3-requires : tie.Need-zero-cells3-requires Inv-loop μ-loop
-zero-cells3-requires c κs = search needs
-
-add-i : tie.Need-add-i Inv-loop μ-loop
-add-i c = search needs
-
-loop-less : tie.Need-loop-less Inv-loop μ-loop
-loop-less c = search needs
 
 loop-again : tie.Need-loop-again Inv-loop μ-loop
 loop-again c =
@@ -38,9 +26,6 @@ loop-again c =
     let a = c .before .before .before .before .before .before .before .args in
     let z = c .before .zero-cells3 in
     (z .kept .0 ∙ l .inv .0, (search needs, z .ensures ∙ rw (l .inv .1 .1) (fill-more (l .i) (0 ∷ 0 ∷ 0 ∷ []) (a .to .now) (search needs))))
-
-same-length : tie.Need-same-length Inv-loop μ-loop
-same-length c = search needs
 
 returns : tie.Need-returns Inv-loop μ-loop
 returns c =
@@ -54,11 +39,11 @@ zero3-spec =
     (tie.spec
     Inv-loop
     μ-loop
-    skip3-requires
+    (λ c κs. search needs)
     loop-holds
-    zero-cells3-requires
-    add-i
-    loop-less
+    (λ c κs. search needs)
+    (λ c. search needs)
+    (λ c. search needs)
     loop-again
-    same-length
+    (λ c. search needs)
     returns)

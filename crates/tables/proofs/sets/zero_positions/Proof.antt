@@ -15,29 +15,11 @@ Inv-loop to₀ i₀ to i = (length to ≡ length to₀) × ((i ≤ length to₀)
 abbrev μ-loop : tie.MeasureT-loop
 μ-loop to₀ i₀ to i = length to₀ - i
 
-loop-holds : tie.Need-loop-holds Inv-loop μ-loop
-loop-holds c = search needs
-
-mul-t3 : tie.Need-mul-t3 Inv-loop μ-loop
-mul-t3 c = search needs
-
-slice-set-from-to : tie.Need-slice-set-from-to Inv-loop μ-loop
-slice-set-from-to c = search needs
-
-add-i : tie.Need-add-i Inv-loop μ-loop
-add-i c = search needs
-
-loop-less : tie.Need-loop-less Inv-loop μ-loop
-loop-less c = search needs
-
 loop-again : tie.Need-loop-again Inv-loop μ-loop
 loop-again c =
     let l = c .before in
     let a = l .before .args in
     (simp length-set (search needs), (search needs, rw (l .loop .inv .1 .1) (fill-more (l .loop .i) (zeroFloat ∷ zeroFloat ∷ zeroFloat ∷ []) (a .to .now) (search needs))))
-
-same-length : tie.Need-same-length Inv-loop μ-loop
-same-length c = search needs
 
 returns : tie.Need-returns Inv-loop μ-loop
 returns c =
@@ -51,11 +33,11 @@ zero-positions-spec =
     (tie.spec
     Inv-loop
     μ-loop
-    loop-holds
-    mul-t3
-    slice-set-from-to
-    add-i
-    loop-less
+    (λ c. search needs)
+    (λ c. search needs)
+    (λ c. search needs)
+    (λ c. search needs)
+    (λ c. search needs)
     loop-again
-    same-length
+    (λ c. search needs)
     returns)

@@ -9,12 +9,9 @@ returns : tie.Need-returns
 unfolding oneUp
 returns c = rw (eq-eqb _ _ (c .if1 .taken))
 
-add-result : tie.Need-add-result
-add-result c = search needs
-
 returns-2 : tie.Need-returns-2
 unfolding oneUp
 returns-2 c = rw (ne-eqb _ _ (c .if1 .left))
 
 pub one-up-spec : {M : Type 1} → statement M
-one-up-spec = tie.close (tie.spec returns add-result returns-2)
+one-up-spec = tie.close (tie.spec returns (λ c. search needs) returns-2)

@@ -19,24 +19,6 @@ abbrev μ-loop : tie.MeasureT-loop
 loop-holds : tie.Need-loop-holds Inv-loop μ-loop
 loop-holds c = let a = c .args in (search needs, λ e. no-rows _ (a .i) (a .i + 0) (omega arith))
 
-add-zero-row3 : tie.Need-add-zero-row3 Inv-loop μ-loop
-add-zero-row3 c = search needs
-
-mul-zero-row3 : tie.Need-mul-zero-row3 Inv-loop μ-loop
-mul-zero-row3 c = search needs
-
-shared-slice-copy-out-zero-row3 : tie.Need-shared-slice-copy-out-zero-row3 Inv-loop μ-loop
-shared-slice-copy-out-zero-row3 c = search needs
-
-zero-row3-requires : tie.Need-zero-row3-requires Inv-loop μ-loop
-zero-row3-requires c κs = search needs
-
-add-k : tie.Need-add-k Inv-loop μ-loop
-add-k c = search needs
-
-loop-less : tie.Need-loop-less Inv-loop μ-loop
-loop-less c = search needs
-
 loop-again : tie.Need-loop-again Inv-loop μ-loop
 loop-again c =
     let l = c .before .before .before in
@@ -56,11 +38,11 @@ zero-block3-spec =
     Inv-loop
     μ-loop
     loop-holds
-    add-zero-row3
-    mul-zero-row3
-    shared-slice-copy-out-zero-row3
-    zero-row3-requires
-    add-k
-    loop-less
+    (λ c. search needs)
+    (λ c. search needs)
+    (λ c. search needs)
+    (λ c κs. search needs)
+    (λ c. search needs)
+    (λ c. search needs)
     loop-again
     returns)

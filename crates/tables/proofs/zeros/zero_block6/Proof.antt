@@ -19,24 +19,6 @@ abbrev μ-loop : tie.MeasureT-loop
 loop-holds : tie.Need-loop-holds Inv-loop μ-loop
 loop-holds c = let a = c .args in (search needs, λ e. no-rows _ (a .i) (a .i + 0) (omega arith))
 
-add-zero-row6 : tie.Need-add-zero-row6 Inv-loop μ-loop
-add-zero-row6 c = search needs
-
-mul-zero-row6 : tie.Need-mul-zero-row6 Inv-loop μ-loop
-mul-zero-row6 c = search needs
-
-shared-slice-copy-out-zero-row6 : tie.Need-shared-slice-copy-out-zero-row6 Inv-loop μ-loop
-shared-slice-copy-out-zero-row6 c = search needs
-
-zero-row6-requires : tie.Need-zero-row6-requires Inv-loop μ-loop
-zero-row6-requires c κs = search needs
-
-add-k : tie.Need-add-k Inv-loop μ-loop
-add-k c = search needs
-
-loop-less : tie.Need-loop-less Inv-loop μ-loop
-loop-less c = search needs
-
 loop-again : tie.Need-loop-again Inv-loop μ-loop
 loop-again c =
     let l = c .before .before .before in
@@ -56,11 +38,11 @@ zero-block6-spec =
     Inv-loop
     μ-loop
     loop-holds
-    add-zero-row6
-    mul-zero-row6
-    shared-slice-copy-out-zero-row6
-    zero-row6-requires
-    add-k
-    loop-less
+    (λ c. search needs)
+    (λ c. search needs)
+    (λ c. search needs)
+    (λ c κs. search needs)
+    (λ c. search needs)
+    (λ c. search needs)
     loop-again
     returns)

@@ -8,15 +8,6 @@ use borrow.Author.Needs.{needs}
 use Rattle.tables.proofs.zeros.zero_row2.Statement.{statement}
 use Rattle.tables.proofs.zeros.zero_row2.Tie as tie
 
-known2-requires : tie.Need-known2-requires
-known2-requires c κs = search needs
-
-array-read-result : tie.Need-array-read-result
-array-read-result c = search needs
-
-array-read-result-2 : tie.Need-array-read-result-2
-array-read-result-2 c = search needs
-
 returns : tie.Need-returns
 returns c =
     λ e.
@@ -27,4 +18,4 @@ returns c =
     row-zero row 2 (c .known2 .ensures) (cell-more row 1 (cell-more row 0 (no-cell row) (b1 .0)) (b1 .1))
 
 pub zero-row2-spec : {M : Type 1} → statement M
-zero-row2-spec = tie.close (tie.spec known2-requires array-read-result array-read-result-2 returns)
+zero-row2-spec = tie.close (tie.spec (λ c κs. search needs) (λ c. search needs) (λ c. search needs) returns)

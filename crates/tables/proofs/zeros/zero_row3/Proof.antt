@@ -8,18 +8,6 @@ use borrow.Author.Needs.{needs}
 use Rattle.tables.proofs.zeros.zero_row3.Statement.{statement}
 use Rattle.tables.proofs.zeros.zero_row3.Tie as tie
 
-known3-requires : tie.Need-known3-requires
-known3-requires c κs = search needs
-
-array-read-result : tie.Need-array-read-result
-array-read-result c = search needs
-
-array-read-result-2 : tie.Need-array-read-result-2
-array-read-result-2 c = search needs
-
-array-read-result-3 : tie.Need-array-read-result-3
-array-read-result-3 c = search needs
-
 returns : tie.Need-returns
 returns c =
     λ e.
@@ -32,4 +20,4 @@ returns c =
     row-zero row 3 (c .known3 .ensures) (cell-more row 2 (cell-more row 1 (cell-more row 0 (no-cell row) (b1 .0)) (b1 .1)) (b2 .1))
 
 pub zero-row3-spec : {M : Type 1} → statement M
-zero-row3-spec = tie.close (tie.spec known3-requires array-read-result array-read-result-2 array-read-result-3 returns)
+zero-row3-spec = tie.close (tie.spec (λ c κs. search needs) (λ c. search needs) (λ c. search needs) (λ c. search needs) returns)

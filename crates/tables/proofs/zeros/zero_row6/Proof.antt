@@ -8,27 +8,6 @@ use borrow.Author.Needs.{needs}
 use Rattle.tables.proofs.zeros.zero_row6.Statement.{statement}
 use Rattle.tables.proofs.zeros.zero_row6.Tie as tie
 
-known6-requires : tie.Need-known6-requires
-known6-requires c κs = search needs
-
-array-read-result : tie.Need-array-read-result
-array-read-result c = search needs
-
-array-read-result-2 : tie.Need-array-read-result-2
-array-read-result-2 c = search needs
-
-array-read-result-3 : tie.Need-array-read-result-3
-array-read-result-3 c = search needs
-
-array-read-result-4 : tie.Need-array-read-result-4
-array-read-result-4 c = search needs
-
-array-read-result-5 : tie.Need-array-read-result-5
-array-read-result-5 c = search needs
-
-array-read-result-6 : tie.Need-array-read-result-6
-array-read-result-6 c = search needs
-
 returns : tie.Need-returns
 returns c =
     λ e.
@@ -47,4 +26,14 @@ returns c =
     row-zero row 6 (c .known6 .ensures) (cell-more row 5 (cell-more row 4 (cell-more row 3 (cell-more row 2 (cell-more row 1 (cell-more row 0 (no-cell row) (b1 .0)) (b1 .1)) (b2 .1)) (b3 .1)) (b4 .1)) (b5 .1))
 
 pub zero-row6-spec : {M : Type 1} → statement M
-zero-row6-spec = tie.close (tie.spec known6-requires array-read-result array-read-result-2 array-read-result-3 array-read-result-4 array-read-result-5 array-read-result-6 returns)
+zero-row6-spec =
+    tie.close
+    (tie.spec
+    (λ c κs. search needs)
+    (λ c. search needs)
+    (λ c. search needs)
+    (λ c. search needs)
+    (λ c. search needs)
+    (λ c. search needs)
+    (λ c. search needs)
+    returns)

@@ -21,21 +21,6 @@ loop-holds c =
     let a = c .args in
     (search needs, (refl, sym (left-start (a .arcs .now) (oppositeOf (a .arcs .now) (a .edges .now)) (turnIn (a .past .now) (a .pastedges .now)) (a .first) (a .bound))))
 
-opposite-requires : tie.Need-opposite-requires Inv-loop μ-loop
-opposite-requires c κs = search needs
-
-cell6-requires : tie.Need-cell6-requires Inv-loop μ-loop
-cell6-requires c κs = search needs
-
-turn-requires : tie.Need-turn-requires Inv-loop μ-loop
-turn-requires c κs = search needs
-
-add-n : tie.Need-add-n Inv-loop μ-loop
-add-n c = search needs
-
-loop-less : tie.Need-loop-less Inv-loop μ-loop
-loop-less c = search needs
-
 loop-again : tie.Need-loop-again Inv-loop μ-loop
 loop-again c =
     let l = c .before .before .before .before .before .before .before in
@@ -88,11 +73,11 @@ faceless-in-spec =
     Inv-loop
     μ-loop
     loop-holds
-    opposite-requires
-    cell6-requires
-    turn-requires
-    add-n
-    loop-less
+    (λ c κs. search needs)
+    (λ c κs. search needs)
+    (λ c κs. search needs)
+    (λ c. search needs)
+    (λ c. search needs)
     loop-again
     returns
     returns-2

@@ -18,23 +18,8 @@ Inv-loop x at n i₀ i = (i ≤ n) × ((k : ℕ) → k < i → eqb x (getD at k 
 abbrev μ-loop : tie.MeasureT-loop
 μ-loop x at n i₀ i = n - i
 
-known-places-requires : tie.Need-known-places-requires Inv-loop μ-loop
-known-places-requires c κs = search needs
-
-in-use-requires : tie.Need-in-use-requires Inv-loop μ-loop
-in-use-requires c κs = search needs
-
 loop-holds : tie.Need-loop-holds Inv-loop μ-loop
 loop-holds c = (search needs, below-none _)
-
-mul-if1 : tie.Need-mul-if1 Inv-loop μ-loop
-mul-if1 c = search needs
-
-array-read-if1 : tie.Need-array-read-if1 Inv-loop μ-loop
-array-read-if1 c = search needs
-
-add-result : tie.Need-add-result Inv-loop μ-loop
-add-result c = search needs
 
 returns : tie.Need-returns Inv-loop μ-loop
 returns c =
@@ -42,12 +27,6 @@ returns c =
     let u = c .before .before .before in
     let a = c .before .before .before .before .before .before .args in
     sym (place-found (a .list) (a .x) (u .in-use .result) (u .before .known-places .ensures) (u .in-use .ensures) (l .loop .i) (search needs) (l .loop .inv .1) (eq-eqb _ _ (c .if1 .taken)))
-
-add-i : tie.Need-add-i Inv-loop μ-loop
-add-i c = search needs
-
-loop-less : tie.Need-loop-less Inv-loop μ-loop
-loop-less c = search needs
 
 loop-again : tie.Need-loop-again Inv-loop μ-loop
 loop-again c = (search needs, below-more _ _ (c .before .before .loop .inv .1) (ne-eqb _ _ (c .if1 .left)))
@@ -66,14 +45,14 @@ place-in-spec =
     (tie.spec
     Inv-loop
     μ-loop
-    known-places-requires
-    in-use-requires
+    (λ c κs. search needs)
+    (λ c κs. search needs)
     loop-holds
-    mul-if1
-    array-read-if1
-    add-result
+    (λ c. search needs)
+    (λ c. search needs)
+    (λ c. search needs)
     returns
-    add-i
-    loop-less
+    (λ c. search needs)
+    (λ c. search needs)
     loop-again
     returns-2)

@@ -16,29 +16,11 @@ abbrev μ-loop : tie.MeasureT-loop
 loop-holds : tie.Need-loop-holds Inv-loop μ-loop
 loop-holds c = going-start (λ y. cell (c .args .arcs .now) y 2) (c .args .first)
 
-walk-as-requires : tie.Need-walk-as-requires Inv-loop μ-loop
-walk-as-requires c κs = search needs
-
 returns : tie.Need-returns Inv-loop μ-loop
 returns c =
     let l = c .before .before .before in
     let a = c .before .before .before .before .args in
     c .walk-as .ensures ∙ going-none (λ y. cell (a .arcs .now) y 2) (a .first) (l .loop .at) (l .loop .len) (l .loop .x) (l .loop .inv) (c .before .if1 .taken)
-
-mul-at : tie.Need-mul-at Inv-loop μ-loop
-mul-at c = search needs
-
-array-write-at : tie.Need-array-write-at Inv-loop μ-loop
-array-write-at c = search needs
-
-add-len : tie.Need-add-len Inv-loop μ-loop
-add-len c = search needs
-
-cell6-requires : tie.Need-cell6-requires Inv-loop μ-loop
-cell6-requires c κs = search needs
-
-walk-as-requires-2 : tie.Need-walk-as-requires-2 Inv-loop μ-loop
-walk-as-requires-2 c κs = search needs
 
 returns-2 : tie.Need-returns-2 Inv-loop μ-loop
 returns-2 c =
@@ -47,26 +29,17 @@ returns-2 c =
     c .walk-as2 .ensures
     ∙ going-closed (λ y. cell (a .arcs .now) y 2) (a .first) (l .loop .at) (l .loop .len) (l .loop .x) (l .loop .inv) (search needs) (c .before .before .before .if1 .left) (c .before .before .cell6 .result) (c .before .before .cell6 .ensures) (c .before .if2 .taken)
 
-loop-less : tie.Need-loop-less Inv-loop μ-loop
-loop-less c = search needs
-
 loop-again : tie.Need-loop-again Inv-loop μ-loop
 loop-again c =
     let l = c .before .before .before .before in
     let a = c .before .before .before .before .before .args in
     going-on (λ y. cell (a .arcs .now) y 2) (a .first) (l .loop .at) (l .loop .len) (l .loop .x) (l .loop .inv) (search needs) (c .before .before .if1 .left) (c .before .cell6 .result) (c .before .cell6 .ensures) (c .if2 .left)
 
-walk-as-requires-3 : tie.Need-walk-as-requires-3 Inv-loop μ-loop
-walk-as-requires-3 c κs = search needs
-
 returns-3 : tie.Need-returns-3 Inv-loop μ-loop
 returns-3 c =
     let l = c .before .before .before in
     let a = c .before .before .before .before .args in
     c .walk-as3 .ensures ∙ going-none (λ y. cell (a .arcs .now) y 2) (a .first) (l .loop .at) (l .loop .len) (l .loop .x) (l .loop .inv) (c .before .if3 .taken)
-
-walk-as-requires-4 : tie.Need-walk-as-requires-4 Inv-loop μ-loop
-walk-as-requires-4 c κs = search needs
 
 returns-4 : tie.Need-returns-4 Inv-loop μ-loop
 returns-4 c =
@@ -81,17 +54,17 @@ ring-spec =
     Inv-loop
     μ-loop
     loop-holds
-    walk-as-requires
+    (λ c κs. search needs)
     returns
-    mul-at
-    array-write-at
-    add-len
-    cell6-requires
-    walk-as-requires-2
+    (λ c. search needs)
+    (λ c. search needs)
+    (λ c. search needs)
+    (λ c κs. search needs)
+    (λ c κs. search needs)
     returns-2
-    loop-less
+    (λ c. search needs)
     loop-again
-    walk-as-requires-3
+    (λ c κs. search needs)
     returns-3
-    walk-as-requires-4
+    (λ c κs. search needs)
     returns-4)

@@ -18,36 +18,9 @@ Inv-loop arcs from n at₀ i₀ at i = (i ≤ n) × Made (λ x. cell arcs x 1) f
 abbrev μ-loop : tie.MeasureT-loop
 μ-loop arcs from n at₀ i₀ at i = n - i
 
-known-places-requires : tie.Need-known-places-requires Inv-loop μ-loop
-known-places-requires c κs = search needs
-
-in-use-requires : tie.Need-in-use-requires Inv-loop μ-loop
-in-use-requires c κs = search needs
-
 loop-holds : tie.Need-loop-holds Inv-loop μ-loop
 unfolding placesOf
 loop-holds c = (search needs, refl)
-
-mul-cell6 : tie.Need-mul-cell6 Inv-loop μ-loop
-mul-cell6 c = search needs
-
-array-read-cell6 : tie.Need-array-read-cell6 Inv-loop μ-loop
-array-read-cell6 c = search needs
-
-cell6-requires : tie.Need-cell6-requires Inv-loop μ-loop
-cell6-requires c κs = search needs
-
-mul-at : tie.Need-mul-at Inv-loop μ-loop
-mul-at c = search needs
-
-array-write-at : tie.Need-array-write-at Inv-loop μ-loop
-array-write-at c = search needs
-
-add-i : tie.Need-add-i Inv-loop μ-loop
-add-i c = search needs
-
-loop-less : tie.Need-loop-less Inv-loop μ-loop
-loop-less c = search needs
 
 loop-again : tie.Need-loop-again Inv-loop μ-loop
 loop-again c =
@@ -71,15 +44,15 @@ ring-vertices-spec =
     (tie.spec
     Inv-loop
     μ-loop
-    known-places-requires
-    in-use-requires
+    (λ c κs. search needs)
+    (λ c κs. search needs)
     loop-holds
-    mul-cell6
-    array-read-cell6
-    cell6-requires
-    mul-at
-    array-write-at
-    add-i
-    loop-less
+    (λ c. search needs)
+    (λ c. search needs)
+    (λ c κs. search needs)
+    (λ c. search needs)
+    (λ c. search needs)
+    (λ c. search needs)
+    (λ c. search needs)
     loop-again
     returns)
