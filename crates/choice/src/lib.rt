@@ -21,7 +21,6 @@ ghost use Rattle.rules.specs.Mesh.{mesh};
 ghost use Rattle.rules.specs.Lent.{unlent, meshBefore, meshAfter};
 ghost use Rattle.rules.specs.Step.{step};
 ghost use Rattle.rules.specs.Call as Call;
-ghost use Rattle.edits.specs.Places.{Kept};
 
 fn vertex_insert(
     vertices: &mut [VertexRow],
@@ -33,7 +32,6 @@ fn vertex_insert(
         ((a e f : Table) (ks : List ℕ) →
         step (mesh (now (vertices .exit)) (now (positions .exit)) a e f (now (counters .exit))) r
         ≡ Call.work (mesh (now (vertices .entry)) (now (positions .entry)) a e f (now (counters .entry))) (VertexInsert position) ks)
-        × Kept (now (vertices .entry)) (now (positions .entry)) (now (positions .exit))
         ⌝ }
 {
     let key = counters[0];
@@ -144,7 +142,6 @@ fn face_poke(
         ((ks : List ℕ) →
         step (meshAfter vertices positions arcs edges faces counters) r
         ≡ Call.work (meshBefore vertices positions arcs edges faces counters) (FacePoke face position) ks)
-        × Kept (now (vertices .entry)) (now (positions .entry)) (now (positions .exit))
         ⌝ }
 {
     let f = rows::find_key3(faces, face);
@@ -212,7 +209,6 @@ fn face_extrude(
         ((ks : List ℕ) →
         step (meshAfter vertices positions arcs edges faces counters) r
         ≡ Call.work (meshBefore vertices positions arcs edges faces counters) (FaceExtrude face by) ks)
-        × Kept (now (vertices .entry)) (now (positions .entry)) (now (positions .exit))
         ⌝ }
 {
     let f = rows::find_key3(faces, face);
@@ -281,7 +277,6 @@ fn arc_extrude(
         ((ks : List ℕ) →
         step (meshAfter vertices positions arcs edges faces counters) r
         ≡ Call.work (meshBefore vertices positions arcs edges faces counters) (ArcExtrude s d by) ks)
-        × Kept (now (vertices .entry)) (now (positions .entry)) (now (positions .exit))
         ⌝ }
 {
     let x = checks::call::arc_by_keys(vertices, arcs, s, d);
@@ -299,7 +294,7 @@ fn arc_extrude(
     )
 }
 
-// The edit that is chosen. A face insert has at most 64 keys. Vertices that were there keep their places.
+// The edit that is chosen. A face insert has at most 64 keys.
 pub fn work(
     vertices: &mut [VertexRow],
     positions: &mut [PositionRow],
@@ -317,7 +312,6 @@ pub fn work(
     ensures { λ r. ⌜
         (step (meshAfter vertices positions arcs edges faces counters) r
         ≡ Call.work (meshBefore vertices positions arcs edges faces counters) edit (now (keys .entry)))
-        × Kept (now (vertices .entry)) (now (positions .entry)) (now (positions .exit))
         ⌝ }
 {
     match edit {

@@ -2,4 +2,3 @@ pub mod Inserts
 pub mod Steps
 pub mod Whole
 pub mod Known
-pub mod Places

@@ -29,7 +29,6 @@ ghost use Rattle.rules.specs.Extrude.{arcExtrudeWork};
 ghost use Rattle.checks.specs.Between.{oneOf, otherOf};
 ghost use Rattle.edits.specs.Each.{joinedBy};
 ghost use Rattle.edits.specs.Known.{Known};
-ghost use Rattle.edits.specs.Places.{Kept};
 
 // The mark of a face that bridges.
 const NO_MARK: u32 = 0;
@@ -186,7 +185,6 @@ pub fn arc_extrude_work(
     ensures { λ r. ⌜
         (step (meshAfter vertices positions arcs edges faces counters) r
         ≡ arcExtrudeWork (meshBefore vertices positions arcs edges faces counters) x by)
-        × Kept (now (vertices .entry)) (now (positions .entry)) (now (positions .exit))
         ⌝ }
 {
     let b = rows::cell6(arcs, x, 1);

@@ -32,7 +32,6 @@ ghost use Rattle.rules.specs.Insert.{insertFace};
 ghost use Rattle.rules.specs.Extrude.{copies, wall, extrudeWork};
 ghost use Rattle.edits.specs.Each.{eachIn};
 ghost use Rattle.edits.specs.Known.{Known};
-ghost use Rattle.edits.specs.Places.{Kept, Added};
 
 // Moved copies of the vertices, made in order: their links.
 fn copies_in(
@@ -46,7 +45,6 @@ fn copies_in(
         ((a e f : Table) →
         record { tables = mesh (now (vertices .exit)) (now (positions .exit)) a e f (now (counters .exit)); links = listOf r }
         ≡ copies (mesh (now (vertices .entry)) (now (positions .entry)) a e f (now (counters .entry))) by (listOf vs))
-        × Added (now (vertices .entry)) (now (positions .entry)) (now (vertices .exit)) (now (positions .exit))
         ⌝ }
 {
     let n = lists::size(vs);
@@ -204,7 +202,6 @@ pub fn extrude_work(
     ensures { λ r. ⌜
         (step (meshAfter vertices positions arcs edges faces counters) r
         ≡ extrudeWork (meshBefore vertices positions arcs edges faces counters) f by)
-        × Kept (now (vertices .entry)) (now (positions .entry)) (now (positions .exit))
         ⌝ }
 {
     let vs = checks::rings::vertices_of(arcs, faces, f);

@@ -1,5 +1,5 @@
 -- How far an edit reaches: it works among its own vertices. Arcs with neither end there keep their rows, and a face that was there, or that was put
--- in on the way, gains nothing later. So what an edit did can be undone, and whether its result is sound be told, by the rows near it.
+-- in on the way, gains nothing later. So the rows near an edit tell whether its result is sound, and are all that is copied over of the arcs.
 use Prim.Native.Nat.{ℕ, _≤_, _<_}
 use mathlib.Core.Path.{_≡_}
 use mathlib.Core.List.{List, [], _∷_, _++_}

@@ -78,14 +78,7 @@ module _ {ℓ} {A : Type ℓ} where
 -- ---- the whole call
 
 -- what zeroing leaves goes by the sizes alone
-pub record SameRoom (r s : Room) : Type 0 where
-  pub vertices : length (r .vertices) ≡ length (s .vertices)
-  pub positions : length (r .positions) ≡ length (s .positions)
-  pub arcs : length (r .arcs) ≡ length (s .arcs)
-  pub edges : length (r .edges) ≡ length (s .edges)
-  pub faces : length (r .faces) ≡ length (s .faces)
-
-zeroed-sized : (r s : Room) → SameRoom r s → zeroed r ≡ zeroed s
+zeroed-sized : (r s : Room) → SameSize r s → zeroed r ≡ zeroed s
 unfolding zeroed
 zeroed-sized r s z =
     λ i. room (replicate (z .vertices i) (0 ∷ 0 ∷ [])) (replicate (z .positions i) (zeroFloat ∷ zeroFloat ∷ zeroFloat ∷ [])) (replicate (z .arcs i) (0 ∷ 0 ∷ 0 ∷ 0 ∷ 0 ∷ 0 ∷ [])) (replicate (z .edges i) (0 ∷ 0 ∷ 0 ∷ [])) (replicate (z .faces i) (0 ∷ 0 ∷ 0 ∷ []))
@@ -96,7 +89,7 @@ module _ (m : Mesh) (one two : Room) (c : Call) (keys : List ℕ) where
   called-not e = rw e
 
   -- n is the mesh left, r and s the rooms after the work, o and t after they were zeroed
-  pub called-done : (a : Answer) (n : Mesh) (r s o t : Room) → ready m one two ≡ true → left a n ≡ T.over m (decided m (c .edit) keys) → SameRoom r one → SameRoom s two → o ≡ zeroed r → t ≡ zeroed s → outcome a n o t ≡ called m one two c keys
+  pub called-done : (a : Answer) (n : Mesh) (r s o t : Room) → ready m one two ≡ true → left a n ≡ T.over m (decided m (c .edit) keys) → SameSize r one → SameSize s two → o ≡ zeroed r → t ≡ zeroed s → outcome a n o t ≡ called m one two c keys
   unfolding called T.over
   called-done a n r s o t e l zr zs eo et =
       (λ i. outcome (l i .answer) (l i .mesh) ((eo ∙ zeroed-sized r one zr) i) ((et ∙ zeroed-sized s two zs) i)) ∙ rw e
@@ -114,7 +107,7 @@ enough-fits m r e =
     let f = and-true (leb (length (m .edges)) (length (r .edges))) _ (d .1) in
     (leb-true _ _ (a .0), leb-true _ _ (b .0), leb-true _ _ (d .0), leb-true _ _ (f .0), leb-true _ _ (f .1))
 
-pub ready-fits : (m : Mesh) (one two : Room) → ready m one two ≡ true → Fits m one (two .arcs) (two .edges)
+pub ready-fits : (m : Mesh) (one two : Room) → ready m one two ≡ true → Fits (room (m .vertices) (m .positions) (m .arcs) (m .edges) (m .faces)) one (two .arcs) (two .edges)
 unfolding ready
 ready-fits m one two e =
     let q = and-true (sound m) (roomEnough m one && roomEnough m two) e in

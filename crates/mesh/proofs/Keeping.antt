@@ -20,7 +20,7 @@ use Rattle.kept.proofs.Eight.{Behind}
 use Rattle.kept.proofs.Vertex.{vertex-insert-keeps}
 use Rattle.kept.proofs.Remove.{face-remove-keeps}
 use Rattle.order.specs.Transaction as T
-use Rattle.order.specs.Transaction.{left, beforeWork, keepsSound}
+use Rattle.order.specs.Transaction.{left, beforeWork, wayOf, isKeeps}
 use Rattle.order.proofs.Settling.{over-accepted, worked-done}
 use Rattle.mesh.proofs.Calling.{performed}
 
@@ -45,8 +45,8 @@ module _ (m : Mesh) (e : Edit) (keys : List ℕ) (k : ThreeCounters m) (s : soun
       record { was-sound = rw s tt; numbers-given = p .0; checks-passed = p .1; moves-finite = p .2; need-met = p .3 }
 
 -- what the work answers and leaves
-keeping : (m : Mesh) (e : Edit) (keys : List ℕ) → ThreeCounters m → Behind m e keys → keepsSound e ≡ true → (accepted (work m e keys .answer) ≡ true) × T (sound (work m e keys .tables))
-unfolding keepsSound work removeWork accepted
+keeping : (m : Mesh) (e : Edit) (keys : List ℕ) → ThreeCounters m → Behind m e keys → isKeeps (wayOf e) ≡ true → (accepted (work m e keys .answer) ≡ true) × T (sound (work m e keys .tables))
+unfolding wayOf isKeeps work removeWork accepted
 keeping m (VertexInsert p) keys k b q = (refl, vertex-insert-keeps m p keys k b)
 keeping m (FaceInsert mark) keys k b q = absurd (false≢true q)
 keeping m (FaceRemove f) keys k b q = (refl, face-remove-keeps m f keys b)
@@ -58,7 +58,7 @@ keeping m (ArcBridge x y z w) keys k b q = absurd (false≢true q)
 keeping m (ArcExtrude s d move) keys k b q = absurd (false≢true q)
 
 -- so the work is what is decided: t is what it left
-pub in-place : (m : Mesh) (e : Edit) (keys : List ℕ) (t : Step) → ThreeCounters m → sound m ≡ true → accepted (beforeWork m e keys) ≡ true → keepsSound e ≡ true → t ≡ work m e keys → left (t .answer) (t .tables) ≡ T.over m (decided m e keys)
+pub in-place : (m : Mesh) (e : Edit) (keys : List ℕ) (t : Step) → ThreeCounters m → sound m ≡ true → accepted (beforeWork m e keys) ≡ true → isKeeps (wayOf e) ≡ true → t ≡ work m e keys → left (t .answer) (t .tables) ≡ T.over m (decided m e keys)
 in-place m e keys t k s a q et =
     let w = work m e keys in
     let h = keeping m e keys k (behind m e keys k s a) q in

@@ -1,4 +1,3 @@
 pub mod Calling
 pub mod Keeping
-pub mod PutBack
-pub mod InPlace
+pub mod InRoom

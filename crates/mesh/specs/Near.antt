@@ -14,7 +14,7 @@ use Rattle.kept.specs.Frame.{ThreeCounters}
 use Rattle.kept.specs.Local.{among}
 use Rattle.pairs.specs.Near.{isMarked}
 use Rattle.nearby.specs.Rows.{Listed}
-use Rattle.order.specs.Transaction.{beforeWork}
+use Rattle.order.specs.Transaction.{beforeWork, wayOf, isNear}
 
 -- the mesh is sound, and nothing before the work refuses the edit
 pub record Begun (m : Mesh) (e : Edit) (keys : List ℕ) : Type 0 where
@@ -23,8 +23,9 @@ pub record Begun (m : Mesh) (e : Edit) (keys : List ℕ) : Type 0 where
   pub passed : accepted (beforeWork m e keys) ≡ true
 
 -- of n links all arcs stand in the list that leave or reach a vertex with a mark, and each vertex of the edit has one; where there are too many to
--- list, it says nothing of them
+-- list, or the rings near the edit do not tell, it says nothing
 pub record NearListed (m : Mesh) (e : Edit) (keys : List ℕ) (list : List ℕ) (n : ℕ) : Type 0 where
   pub seen : List Bool
-  pub marked : (v : ℕ) → T (has (among m e keys) v) → isMarked seen v ≡ true
+  pub near : n ≤ 2048 → isNear (wayOf e) ≡ true
+  pub marked : n ≤ 2048 → (v : ℕ) → T (has (among m e keys) v) → isMarked seen v ≡ true
   pub listed : n ≤ 2048 → Listed (m .arcs) (m .edges) seen (take n list)

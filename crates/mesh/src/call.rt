@@ -2,10 +2,8 @@
 // moved coordinates; 7; the Rust's refusals in mid-edit; 8", and "Working room ends all zero, accepted or not; answer 1 alone leaves it
 // untouched."
 
-use crate::places;
 use nearby::rows;
 use nearby::rows::LISTED;
-use order::back;
 use order::decide;
 use order::rooms;
 use order::settle;
@@ -21,24 +19,19 @@ use rules::Refusal;
 use rules::VertexRow;
 use tables::answers;
 ghost use mathlib.Core.Path.{_≡_};
-ghost use mathlib.Core.List.{List, []};
+ghost use mathlib.Core.List.{List};
 ghost use lib.ListN.{length};
 ghost use lib.Ieee.{Float};
-ghost use Rattle.rules.specs.Table.{Table};
-ghost use Rattle.rules.specs.Mesh.{mesh, room};
-ghost use Rattle.rules.specs.Lent.{unlent, meshNow, meshBefore, meshAfter, roomBefore, roomAfter};
+ghost use Rattle.rules.specs.Lent.{unlent, meshNow, meshBefore, meshAfter, roomNow, roomBefore, roomAfter};
 ghost use mathlib.Core.Bool.{true};
 ghost use Prim.Native.Nat.{ℕ, _≤_};
 ghost use Rattle.rules.specs.declared.Edit.the-variants.{FaceInsert};
 ghost use Rattle.rules.specs.Sound.{sound};
 ghost use Rattle.rules.specs.Call.{work, worked, decided, called, outcome};
-ghost use Rattle.edits.specs.Places.{Kept};
-ghost use Rattle.nearby.specs.Rows.{Undoable};
 ghost use Rattle.order.specs.Transaction.{left, over, SameSize, Fits};
-ghost use Rattle.mesh.specs.Places.{Blank};
 ghost use Rattle.mesh.specs.Near.{NearListed, Begun};
 
-// The arcs near an edit, listed: how many links. A face insert has at most 64 keys.
+// The arcs near an edit, listed: how many links, or too many where the rings near it do not tell. A face insert has at most 64 keys.
 fn list_near(
     list: &mut [u32; LISTED],
     vertices: &[VertexRow],
@@ -54,41 +47,16 @@ fn list_near(
         NearListed (meshBefore vertices (unlent p) arcs edges faces (unlent k)) edit (now (keys .entry)) (now (list .exit)) r)
         ⌝ }
 {
+    if !settle::is_near(settle::way_of(edit)) {
+        return rows::TOO_MANY;
+    }
     let mut seen = [false; MARKS];
     nearby::vertices::mark_edit(&mut seen, vertices, arcs, faces, edit, keys);
     rows::list_rows(list, arcs, edges, &seen)
 }
 
-// The mesh as it was, where an edit in place is refused: its tables out of the room where they were kept, and the positions by the vertices.
-fn put_back(
-    vertices: &mut [VertexRow],
-    positions: &mut [PositionRow],
-    arcs: &mut [ArcRow],
-    edges: &mut [EdgeRow],
-    faces: &mut [FaceRow],
-    v: &[VertexRow],
-    a: &[ArcRow],
-    e: &[EdgeRow],
-    f: &[FaceRow],
-    list: &[u32; LISTED],
-    n: usize,
-)
-    requires { ⌜
-        SameSize (mesh (now vertices) [] (now arcs) (now edges) (now faces) []) (mesh (now v) [] (now a) (now e) (now f) [])
-        × (length (now vertices) ≡ length (now positions))
-        ⌝ }
-    ensures { λ _. ⌜
-        ((o : Table) (p : List (List Float)) →
-        Undoable o (now (arcs .entry)) (now (a .entry)) (now (list .entry)) n (now (edges .entry)) (now (e .entry)) →
-        Kept (now (v .entry)) p (now (positions .entry)) → Blank (now (v .entry)) p →
-        meshAfter vertices positions arcs edges faces (unlent []) ≡ mesh (now (v .entry)) p o (now (e .entry)) (now (f .entry)) [])
-        ⌝ }
-{
-    back::put_back(vertices, arcs, edges, faces, v, a, e, f, list, n);
-    places::put_back(vertices, positions);
-}
-
-// The edit in place, near which n arcs are listed, and what is settled. What it may change is kept in room that is as long as the mesh.
+// The edit on a copy of the mesh in room that is as long, near which n arcs are listed. It is judged there, and copied over the mesh only where it is
+// accepted.
 fn work_listed(
     vertices: &mut [VertexRow],
     positions: &mut [PositionRow],
@@ -97,6 +65,7 @@ fn work_listed(
     faces: &mut [FaceRow],
     counters: &mut [u32; 3],
     v: &mut [VertexRow],
+    p: &mut [PositionRow],
     a: &mut [ArcRow],
     e: &mut [EdgeRow],
     f: &mut [FaceRow],
@@ -108,7 +77,7 @@ fn work_listed(
     keys: &[u32],
 ) -> Answer
     requires { ⌜ Begun (meshNow vertices positions arcs edges faces counters) edit (now keys) ⌝ }
-    requires { ⌜ SameSize (mesh (now vertices) [] (now arcs) (now edges) (now faces) []) (mesh (now v) [] (now a) (now e) (now f) []) ⌝ }
+    requires { ⌜ SameSize (roomNow vertices positions arcs edges faces) (roomNow v p a e f) ⌝ }
     requires { ⌜ (length (now past) ≡ length (now arcs)) × (length (now pastedges) ≡ length (now edges)) ⌝ }
     requires { ⌜ NearListed (meshNow vertices positions arcs edges faces counters) edit (now keys) (now list) n ⌝ }
     ensures { λ r. ⌜
@@ -117,45 +86,35 @@ fn work_listed(
         (worked (work (meshBefore vertices positions arcs edges faces counters) edit (now (keys .entry))))
         ⌝ }
 {
-    places::known_exact(positions);
     rows::known_rows(arcs);
-    back::keep(v, a, e, f, vertices, arcs, edges, faces, list, n);
-    let k = *counters;
-    let told = choice::work(
-        vertices,
-        positions,
-        arcs,
-        edges,
-        faces,
-        counters,
-        past,
-        pastedges,
-        edit,
-        keys,
-    );
-    rows::known_rows(arcs);
-    let answer = settle::judged(
-        vertices,
-        positions,
-        arcs,
-        edges,
-        faces,
-        counters,
-        list,
-        n,
-        k[2],
-        told,
-    );
-    if answers::accepted(answer) {
+    rooms::copy_in(v, p, a, e, f, vertices, positions, arcs, edges, faces);
+    let mut k = *counters;
+    let told = choice::work(v, p, a, e, f, &mut k, past, pastedges, edit, keys);
+    rows::known_rows(a);
+    let answer = settle::judged(v, p, a, e, f, &k, list, n, counters[2], told);
+    if !answers::accepted(answer) {
         return answer;
     }
-    put_back(vertices, positions, arcs, edges, faces, v, a, e, f, list, n);
+    rooms::copy_over(
+        vertices,
+        positions,
+        arcs,
+        edges,
+        faces,
+        v,
+        p,
+        a,
+        e,
+        f,
+        list,
+        n,
+    );
     *counters = k;
     answer
 }
 
-// The edit in place, with the arcs near it listed first, and what is settled.
-fn work_in_place(
+// The edit in room that is as long as the mesh, with the arcs near it listed first.
+fn work_in_room(
     vertices: &mut [VertexRow],
     positions: &mut [PositionRow],
     arcs: &mut [ArcRow],
@@ -163,6 +122,7 @@ fn work_in_place(
     faces: &mut [FaceRow],
     counters: &mut [u32; 3],
     v: &mut [VertexRow],
+    p: &mut [PositionRow],
     a: &mut [ArcRow],
     e: &mut [EdgeRow],
     f: &mut [FaceRow],
@@ -172,7 +132,7 @@ fn work_in_place(
     keys: &[u32],
 ) -> Answer
     requires { ⌜ Begun (meshNow vertices positions arcs edges faces counters) edit (now keys) ⌝ }
-    requires { ⌜ SameSize (mesh (now vertices) [] (now arcs) (now edges) (now faces) []) (mesh (now v) [] (now a) (now e) (now f) []) ⌝ }
+    requires { ⌜ SameSize (roomNow vertices positions arcs edges faces) (roomNow v p a e f) ⌝ }
     requires { ⌜ (length (now past) ≡ length (now arcs)) × (length (now pastedges) ≡ length (now edges)) ⌝ }
     ensures { λ r. ⌜
         left r (meshAfter vertices positions arcs edges faces counters)
@@ -190,6 +150,7 @@ fn work_in_place(
         faces,
         counters,
         v,
+        p,
         a,
         e,
         f,
@@ -207,7 +168,7 @@ fn known_three(counters: [u32; 3])
     ensures { λ _. ⌜ length counters ≡ 3 ⌝ }
 {}
 
-// The edit on a sound mesh: what is decided before it, then the work. Where the work may be refused, what it may change is kept.
+// The edit on a sound mesh: what is decided before it, then the work. Where the work may still be refused, it is done in room.
 fn perform(
     vertices: &mut [VertexRow],
     positions: &mut [PositionRow],
@@ -216,6 +177,7 @@ fn perform(
     faces: &mut [FaceRow],
     counters: &mut [u32; 3],
     v: &mut [VertexRow],
+    p: &mut [PositionRow],
     a: &mut [ArcRow],
     e: &mut [EdgeRow],
     f: &mut [FaceRow],
@@ -225,7 +187,7 @@ fn perform(
     keys: &[u32],
 ) -> Answer
     requires { ⌜ sound (meshNow vertices positions arcs edges faces counters) ≡ true ⌝ }
-    requires { ⌜ SameSize (mesh (now vertices) [] (now arcs) (now edges) (now faces) []) (mesh (now v) [] (now a) (now e) (now f) []) ⌝ }
+    requires { ⌜ SameSize (roomNow vertices positions arcs edges faces) (roomNow v p a e f) ⌝ }
     requires { ⌜ (length (now past) ≡ length (now arcs)) × (length (now pastedges) ≡ length (now edges)) ⌝ }
     ensures { λ r. ⌜
         left r (meshAfter vertices positions arcs edges faces counters)
@@ -247,7 +209,7 @@ fn perform(
     if !answers::accepted(first) {
         return first;
     }
-    if settle::keeps_sound(edit) {
+    if settle::is_keeps(settle::way_of(edit)) {
         return choice::work(
             vertices,
             positions,
@@ -261,7 +223,7 @@ fn perform(
             keys,
         );
     }
-    work_in_place(
+    work_in_room(
         vertices,
         positions,
         arcs,
@@ -269,6 +231,7 @@ fn perform(
         faces,
         counters,
         v,
+        p,
         a,
         e,
         f,
@@ -288,6 +251,7 @@ fn perform_in_parts(
     faces: &mut [FaceRow],
     counters: &mut [u32; 3],
     v: &mut [VertexRow],
+    p: &mut [PositionRow],
     a: &mut [ArcRow],
     e: &mut [EdgeRow],
     f: &mut [FaceRow],
@@ -297,9 +261,7 @@ fn perform_in_parts(
     keys: &[u32],
 ) -> Answer
     requires { ⌜ sound (meshNow vertices positions arcs edges faces counters) ≡ true ⌝ }
-    requires { ⌜
-        Fits (mesh (now vertices) [] (now arcs) (now edges) (now faces) []) (room (now v) [] (now a) (now e) (now f)) (now past) (now pastedges)
-        ⌝ }
+    requires { ⌜ Fits (roomNow vertices positions arcs edges faces) (roomNow v p a e f) (now past) (now pastedges) ⌝ }
     ensures { λ r. ⌜
         left r (meshAfter vertices positions arcs edges faces counters)
         ≡ over (meshBefore vertices positions arcs edges faces counters)
@@ -307,6 +269,7 @@ fn perform_in_parts(
         ⌝ }
 {
     let nv = vertices.len();
+    let np = positions.len();
     let na = arcs.len();
     let ne = edges.len();
     let nf = faces.len();
@@ -318,6 +281,7 @@ fn perform_in_parts(
         faces,
         counters,
         &mut v[0..nv],
+        &mut p[0..np],
         &mut a[0..na],
         &mut e[0..ne],
         &mut f[0..nf],
@@ -384,6 +348,7 @@ pub fn change(
         faces,
         counters,
         v1,
+        p1,
         a1,
         e1,
         f1,

@@ -1,6 +1,6 @@
 pub mod Right
 pub mod Listing
-pub mod Undo
+pub mod Reached
 pub mod Marking
 pub mod RingTests
 pub mod RingsTell

@@ -1,10 +1,10 @@
--- Rows near an edit in a list; rows of one table that become those of another; and the arcs put back as they were.
+-- Rows near an edit in a list, and rows of one table that become those of another: the listed ones, those of new edges, all.
 use Prim.Native.Nat.{ℕ, _+_, _-_, _≤_, _<_}
 use mathlib.Core.Path.{_≡_}
-use mathlib.Core.Bool.{Bool, true, not, _&&_}
+use mathlib.Core.Bool.{Bool, true, _&&_}
 use mathlib.Core.List.{List, []}
 use mathlib.Core.Logic.{_⊎_}
-use lib.ListN.{length, getD, take, replicate}
+use lib.ListN.{length, getD, take}
 use Rattle.rules.specs.Table.{Table, has, unused, used}
 use Rattle.rules.specs.Mesh.{oppositeOf}
 use Rattle.pairs.specs.Near.{isMarked}
@@ -39,12 +39,12 @@ pub record Toward (o t n : Table) : Type 0 where
 abbrev pub AllRight : Table → Table → List ℕ → Type 0
 AllRight o t list = (x : ℕ) → has list x ≡ true → Right o t x
 
--- from t to n the row of x became that of the other table; the rows of a list did
+-- from t to n the row of x became that of o; the rows of a list did
 abbrev pub CopiedRow : Table → Table → Table → ℕ → Type 0
-CopiedRow from t n x = (o : Table) → Right o from x → Toward o t n × Right o n x
+CopiedRow o t n x = Toward o t n × Right o n x
 
 abbrev pub Copied : List ℕ → Table → Table → Table → Type 0
-Copied list from t n = (o : Table) → AllRight o from list → Toward o t n × AllRight o n list
+Copied list o t n = Toward o t n × AllRight o n list
 
 -- ---- new arcs
 
@@ -52,29 +52,18 @@ Copied list from t n = (o : Table) → AllRight o from list → Toward o t n × 
 abbrev pub isNew : List ℕ → List ℕ → Bool
 isNew was row = unused was && used row
 
--- the row of x is zero in o, for the links of t
-abbrev pub BlankAt : Table → Table → ℕ → Type 0
-BlankAt t o x = 1 ≤ x → x ≤ length t → getD o (x - 1) [] ≡ replicate 6 0
-
--- the rows of both arcs of an edge are zero in o; they are in t as in o
-abbrev pub BothBlank : Table → Table → List ℕ → Type 0
-BothBlank t o row = BlankAt t o (getD row 1 0) × BlankAt t o (getD row 2 0)
-
-abbrev pub BothRight : Table → Table → List ℕ → Type 0
-BothRight o t row = Right o t (getD row 1 0) × Right o t (getD row 2 0)
-
--- so for the edge in row k if it is new, and for every new edge
-abbrev pub BlankIfNew : Table → Table → Table → Table → ℕ → Type 0
-BlankIfNew were edges t o k = isNew (getD were k []) (getD edges k []) ≡ true → BothBlank t o (getD edges k [])
-
+-- both arcs of the edge in row k are in t as in o, if that edge is new
 abbrev pub RightIfNew : Table → Table → Table → Table → ℕ → Type 0
-RightIfNew were edges t o k = isNew (getD were k []) (getD edges k []) ≡ true → BothRight o t (getD edges k [])
+RightIfNew were edges o t k =
+    isNew (getD were k []) (getD edges k []) ≡ true → Right o t (getD (getD edges k []) 1 0) × Right o t (getD (getD edges k []) 2 0)
 
-abbrev pub NewBlank : Table → Table → Table → Table → Type 0
-NewBlank were edges t o = (k : ℕ) → k < length edges → BlankIfNew were edges t o k
+-- from t to n the arcs of the new edges among the first i became those of o
+abbrev pub NewCopiedTo : Table → Table → Table → Table → Table → ℕ → Type 0
+NewCopiedTo were edges o t n i = Toward o t n × ((k : ℕ) → k < i → RightIfNew were edges o n k)
 
-abbrev pub NewRight : Table → Table → Table → Table → Type 0
-NewRight were edges t o = (k : ℕ) → k < length edges → RightIfNew were edges t o k
+-- of all edges
+abbrev pub NewCopied : Table → Table → Table → Table → Table → Type 0
+NewCopied were edges o t n = NewCopiedTo were edges o t n (length edges)
 
 -- x is an arc of a new edge
 pub record OfNewEdge (were edges : Table) (x : ℕ) : Type 0 where
@@ -85,10 +74,6 @@ pub record OfNewEdge (were edges : Table) (x : ℕ) : Type 0 where
 
 -- ---- all arcs
 
--- the arcs t were o: the listed rows were kept, or all rows; every other row is as it was, or is an arc of a new edge, which was unused
-pub record Undoable (o t kept : Table) (list : List ℕ) (n : ℕ) (edges were : Table) : Type 0 where
-  pub size : length t ≡ length o
-  pub all-kept : 2048 < n → kept ≡ o
-  pub listed-kept : n ≤ 2048 → AllRight o kept (take n list)
-  pub others : n ≤ 2048 → (x : ℕ) → 1 ≤ x → x ≤ length o → Right o t x ⊎ ((has (take n list) x ≡ true) ⊎ OfNewEdge were edges x)
-  pub new-blank : NewBlank were edges t o
+-- where t and o differ, the row is listed or is an arc of a new edge; where there were too many to list, they may differ anywhere
+abbrev pub DifferNear : Table → Table → List ℕ → ℕ → Table → Table → Type 0
+DifferNear o t list n edges were = n ≤ 2048 → (x : ℕ) → Right o t x ⊎ ((has (take n list) x ≡ true) ⊎ OfNewEdge were edges x)

@@ -1,5 +1,6 @@
-// The rows of the arcs near an edit, listed, kept before it and put back where it is refused. Listed are the arcs that leave a vertex with a mark, and
-// their opposites, which reach it. An edit changes no other arc that was there; its new arcs are those of edges that were not there.
+// The arcs near an edit, listed: those that leave a vertex with a mark, and their opposites, which reach it. An edit changes no other arc that was there,
+// and its new arcs are those of edges that were not there. So these rows alone are copied over when it is accepted. Document 01: "work in lent room,
+// copied over only when accepted".
 
 use pairs::MARKS;
 use pairs::marked;
@@ -12,8 +13,7 @@ ghost use mathlib.Core.Bool.{Bool};
 ghost use mathlib.Core.List.{List};
 ghost use Prim.Native.Nat.{_+_, _≤_, _<_};
 ghost use lib.ListN.{length, take};
-ghost use Rattle.rules.specs.Table.{Table};
-ghost use Rattle.nearby.specs.Rows.{SixCells, Listed, ListedTo, Toward, CopiedRow, Copied, BlankIfNew, RightIfNew, NewBlank, NewRight, isNew, Undoable};
+ghost use Rattle.nearby.specs.Rows.{SixCells, Listed, ListedTo, CopiedRow, Copied, isNew, Toward, RightIfNew, NewCopied, DifferNear};
 
 // How many links are listed at most.
 pub const LISTED: usize = 2048;
@@ -92,7 +92,7 @@ pub fn list_rows(
 
 // ---- the rows
 
-// A row that the table does not have stays out.
+// The row of a link becomes that of the other table. A row that the table does not have stays out.
 fn copy_row(to: &mut [ArcRow], from: &[ArcRow], x: u32)
     requires { ⌜ length (now to) ≡ length (now from) ⌝ }
     ensures { λ _. ⌜ CopiedRow (now (from .entry)) (now (to .entry)) (now (to .exit)) x ⌝ }
@@ -120,21 +120,6 @@ fn copy_listed(to: &mut [ArcRow], from: &[ArcRow], list: &[u32; LISTED], n: usiz
     }
 }
 
-// The listed rows, or all where there are too many to list.
-pub fn copy_rows(to: &mut [ArcRow], from: &[ArcRow], list: &[u32; LISTED], n: usize)
-    requires { ⌜ length (now to) ≡ length (now from) ⌝ }
-    ensures { λ _. ⌜
-        (2048 < n → now (to .exit) ≡ now (from .entry))
-        × (n ≤ 2048 → Copied (take n (now (list .entry))) (now (from .entry)) (now (to .entry)) (now (to .exit)))
-        ⌝ }
-{
-    if n > LISTED {
-        sets::copy6(to, from);
-        return;
-    }
-    copy_listed(to, from, list, n);
-}
-
 // ---- new arcs
 
 // Whether a row of the edges is used that was not.
@@ -147,51 +132,51 @@ fn is_new(was: EdgeRow, row: EdgeRow) -> bool
     row[0] != 0
 }
 
-// Both arcs of the edge in row i become zero if that edge was not there.
-fn zero_arcs(arcs: &mut [ArcRow], edges: &[EdgeRow], were: &[EdgeRow], i: usize)
-    requires { ⌜ (i < length (now edges)) × (length (now edges) ≡ length (now were)) ⌝ }
+// Both arcs of the edge in row i become those of the other table if that edge was not there.
+fn copy_arcs(to: &mut [ArcRow], from: &[ArcRow], edges: &[EdgeRow], were: &[EdgeRow], i: usize)
+    requires { ⌜ (i < length (now edges)) × ((length (now edges) ≡ length (now were)) × (length (now to) ≡ length (now from))) ⌝ }
     ensures { λ _. ⌜
-        ((o : Table) → BlankIfNew (now (were .entry)) (now (edges .entry)) (now (arcs .entry)) o i → Toward o (now (arcs .entry)) (now (arcs .exit))
-        × RightIfNew (now (were .entry)) (now (edges .entry)) (now (arcs .exit)) o i)
+        Toward (now (from .entry)) (now (to .entry)) (now (to .exit))
+        × RightIfNew (now (were .entry)) (now (edges .entry)) (now (from .entry)) (now (to .exit)) i
         ⌝ }
 {
     if !is_new(were[i], edges[i]) {
         return;
     }
-    rows::put_row6(arcs, edges[i][1], [0; 6]);
-    rows::put_row6(arcs, edges[i][2], [0; 6]);
+    copy_row(to, from, edges[i][1]);
+    copy_row(to, from, edges[i][2]);
 }
 
-// The rows of the arcs of every new edge become zero.
-fn zero_new(arcs: &mut [ArcRow], edges: &[EdgeRow], were: &[EdgeRow])
-    requires { ⌜ length (now edges) ≡ length (now were) ⌝ }
-    ensures { λ _. ⌜
-        ((o : Table) → NewBlank (now (were .entry)) (now (edges .entry)) (now (arcs .entry)) o → Toward o (now (arcs .entry)) (now (arcs .exit))
-        × NewRight (now (were .entry)) (now (edges .entry)) (now (arcs .exit)) o)
-        ⌝ }
+// The arcs of every new edge do.
+fn copy_new(to: &mut [ArcRow], from: &[ArcRow], edges: &[EdgeRow], were: &[EdgeRow])
+    requires { ⌜ (length (now edges) ≡ length (now were)) × (length (now to) ≡ length (now from)) ⌝ }
+    ensures { λ _. ⌜ NewCopied (now (were .entry)) (now (edges .entry)) (now (from .entry)) (now (to .entry)) (now (to .exit)) ⌝ }
 {
     let mut i: usize = 0;
     while i < edges.len() {
-        zero_arcs(arcs, edges, were, i);
+        copy_arcs(to, from, edges, were, i);
         i += 1;
     }
 }
 
-// The arcs as they were, where the rows listed were kept and the others are as they were, or are new.
-pub fn put_back(
-    arcs: &mut [ArcRow],
-    kept: &[ArcRow],
+// The arcs become those of the other table, where they differ near the edit alone: the listed rows and those of new edges are copied, or all where there
+// were too many to list.
+pub fn copy_over(
+    to: &mut [ArcRow],
+    from: &[ArcRow],
     list: &[u32; LISTED],
     n: usize,
     edges: &[EdgeRow],
     were: &[EdgeRow],
 )
-    requires { ⌜ (length (now arcs) ≡ length (now kept)) × (length (now edges) ≡ length (now were)) ⌝ }
-    ensures { λ _. ⌜
-        ((o : Table) → Undoable o (now (arcs .entry)) (now (kept .entry)) (now (list .entry)) n (now (edges .entry)) (now (were .entry)) →
-        now (arcs .exit) ≡ o)
-        ⌝ }
+    requires { ⌜ (length (now edges) ≡ length (now were)) × (length (now to) ≡ length (now from)) ⌝ }
+    requires { ⌜ DifferNear (now from) (now to) (now list) n (now edges) (now were) ⌝ }
+    ensures { λ _. ⌜ now (to .exit) ≡ now (from .entry) ⌝ }
 {
-    copy_rows(arcs, kept, list, n);
-    zero_new(arcs, edges, were);
+    if n > LISTED {
+        sets::copy6(to, from);
+        return;
+    }
+    copy_listed(to, from, list, n);
+    copy_new(to, from, edges, were);
 }

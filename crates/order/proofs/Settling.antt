@@ -2,13 +2,15 @@
 use mathlib.Core.Path.{_≡_, refl, ap, sym, _∙_}
 use mathlib.Core.Bool.{Bool, true, false, cond}
 use Rattle.rules.specs.declared.Answer.{Answer}
-use Rattle.rules.specs.Mesh.{Mesh}
+use Rattle.rules.specs.Mesh.{Mesh, Room, room}
 use Rattle.rules.specs.Step.{Step, step, stops, accepted}
 use Rattle.rules.specs.Call.{kept, worked, lastStep}
 use Rattle.rules.specs.Sound.{sound}
 use Rattle.rules.specs.declared.Refusal.the-variants.{WouldBreak}
 use Rattle.order.specs.Transaction as T
-use Rattle.order.specs.Transaction.{left}
+use Rattle.order.specs.Transaction.{left, SameSize}
+use Rattle.tables.specs.Sets.{setOver}
+use Rattle.tables.proofs.Lists.{over-same}
 
 -- a refused step leaves the mesh, an accepted one its own tables
 pub over-refused : (m : Mesh) (s : Step) → accepted (s .answer) ≡ false → left (s .answer) m ≡ T.over m s
@@ -51,3 +53,9 @@ module _ (b n : Mesh) (t x : Answer) (e : x ≡ worked (step n t) .answer) where
 
   pub left-alone : accepted x ≡ false → left x b ≡ T.over b (worked (step n t))
   left-alone a = ap (λ (y : Answer). left y b) e ∙ over-refused b (worked (step n t)) (ap accepted (sym e) ∙ a)
+
+-- ---- a set copied over another of the same sizes
+
+pub set-same : (r s : Room) → SameSize r s → setOver r s ≡ r
+unfolding setOver
+set-same r s z i = room (over-same (r .vertices) (s .vertices) (z .vertices) i) (over-same (r .positions) (s .positions) (z .positions) i) (over-same (r .arcs) (s .arcs) (z .arcs) i) (over-same (r .edges) (s .edges) (z .edges) i) (over-same (r .faces) (s .faces) (z .faces) i)

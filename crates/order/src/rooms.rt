@@ -1,5 +1,8 @@
-// Both rooms when a call ends. Document 01: "Working room ends all zero, accepted or not".
+// The rooms: an edit works in room one, on a copy of the mesh, which is copied over only when the edit is accepted; and both rooms when a call ends. Document 01:
+// "`Transact` becomes work in lent room, copied over only when accepted", and "Working room ends all zero, accepted or not".
 
+use nearby::rows;
+use nearby::rows::LISTED;
 use rules::ArcRow;
 use rules::EdgeRow;
 use rules::FaceRow;
@@ -7,10 +10,57 @@ use rules::PositionRow;
 use rules::VertexRow;
 use tables::sets;
 ghost use mathlib.Core.Path.{_≡_};
-ghost use Rattle.rules.specs.Lent.{roomBefore, roomAfter};
+ghost use Rattle.rules.specs.Lent.{roomNow, roomBefore, roomAfter};
 ghost use Rattle.rules.specs.Call.{zeroed};
+ghost use Rattle.nearby.specs.Rows.{DifferNear};
+ghost use Rattle.order.specs.Transaction.{SameSize};
 
-// Every row of both becomes zero.
+// The mesh copied into room that is as long: v, p, a, e, f.
+pub fn copy_in(
+    v: &mut [VertexRow],
+    p: &mut [PositionRow],
+    a: &mut [ArcRow],
+    e: &mut [EdgeRow],
+    f: &mut [FaceRow],
+    vertices: &[VertexRow],
+    positions: &[PositionRow],
+    arcs: &[ArcRow],
+    edges: &[EdgeRow],
+    faces: &[FaceRow],
+)
+    requires { ⌜ SameSize (roomNow vertices positions arcs edges faces) (roomNow v p a e f) ⌝ }
+    ensures { λ _. ⌜ roomAfter v p a e f ≡ roomBefore vertices positions arcs edges faces ⌝ }
+{
+    sets::copy_set(v, p, a, e, f, vertices, positions, arcs, edges, faces);
+}
+
+// What an accepted edit left in that room, copied over the mesh. Of the arcs only the n listed near the edit and those of new edges can differ.
+pub fn copy_over(
+    vertices: &mut [VertexRow],
+    positions: &mut [PositionRow],
+    arcs: &mut [ArcRow],
+    edges: &mut [EdgeRow],
+    faces: &mut [FaceRow],
+    v: &[VertexRow],
+    p: &[PositionRow],
+    a: &[ArcRow],
+    e: &[EdgeRow],
+    f: &[FaceRow],
+    list: &[u32; LISTED],
+    n: usize,
+)
+    requires { ⌜ SameSize (roomNow vertices positions arcs edges faces) (roomNow v p a e f) ⌝ }
+    requires { ⌜ DifferNear (now a) (now arcs) (now list) n (now e) (now edges) ⌝ }
+    ensures { λ _. ⌜ roomAfter vertices positions arcs edges faces ≡ roomBefore v p a e f ⌝ }
+{
+    rows::copy_over(arcs, a, list, n, e, edges);
+    sets::copy2(vertices, v);
+    sets::copy_positions(positions, p);
+    sets::copy3(edges, e);
+    sets::copy3(faces, f);
+}
+
+// Every row of both rooms becomes zero.
 pub fn clear(
     v1: &mut [VertexRow],
     p1: &mut [PositionRow],

@@ -21,22 +21,51 @@ ghost use Rattle.rules.specs.Step.{step, accepted};
 ghost use Rattle.rules.specs.Sound.{sound};
 ghost use Rattle.rules.specs.Call.{worked};
 ghost use Rattle.nearby.specs.Rings.{ringsHold};
-ghost use Rattle.order.specs.Transaction.{keepsSound};
+ghost use Rattle.order.specs.Transaction.{wayOf, isKeeps, isNear};
 
-// Whether an edit is one that refuses nothing in mid-edit and always leaves a sound mesh, so that it needs no room and nothing is to be settled.
-pub fn keeps_sound(edit: Edit) -> bool
-    ensures { λ r. ⌜ r ≡ keepsSound edit ⌝ }
+// How it is known that what an edit leaves is sound: kept by proof, told by the rings near it, or told by the full check. A new edit may begin with the full
+// check, which asks nothing of it.
+pub enum Way {
+    Keeps,
+    Near,
+    Full,
+}
+
+pub fn way_of(edit: Edit) -> Way
+    ensures { λ r. ⌜ r ≡ wayOf edit ⌝ }
 {
     match edit {
-        Edit::VertexInsert(_) => true,
-        Edit::FaceInsert(_) => false,
-        Edit::FaceRemove(_) => true,
-        Edit::FaceSplit(_, _, _) => false,
-        Edit::FacePoke(_, _) => false,
-        Edit::FaceBridge(_, _) => false,
-        Edit::FaceExtrude(_, _) => false,
-        Edit::ArcBridge(_, _, _, _) => false,
-        Edit::ArcExtrude(_, _, _) => false,
+        Edit::VertexInsert(_) => Way::Keeps,
+        Edit::FaceInsert(_) => Way::Near,
+        Edit::FaceRemove(_) => Way::Keeps,
+        Edit::FaceSplit(_, _, _) => Way::Near,
+        Edit::FacePoke(_, _) => Way::Near,
+        Edit::FaceBridge(_, _) => Way::Near,
+        Edit::FaceExtrude(_, _) => Way::Near,
+        Edit::ArcBridge(_, _, _, _) => Way::Near,
+        Edit::ArcExtrude(_, _, _) => Way::Near,
+    }
+}
+
+// Whether it is kept by proof: then nothing is to be settled, and the edit needs no room.
+pub fn is_keeps(way: Way) -> bool
+    ensures { λ r. ⌜ r ≡ isKeeps way ⌝ }
+{
+    match way {
+        Way::Keeps => true,
+        Way::Near => false,
+        Way::Full => false,
+    }
+}
+
+// Whether the rings near it tell.
+pub fn is_near(way: Way) -> bool
+    ensures { λ r. ⌜ r ≡ isNear way ⌝ }
+{
+    match way {
+        Way::Keeps => false,
+        Way::Near => true,
+        Way::Full => false,
     }
 }
 

@@ -30,7 +30,6 @@ ghost use Rattle.rules.specs.Insert.{insertFace};
 ghost use Rattle.rules.specs.Edit.{pokeWork};
 ghost use Rattle.edits.specs.Each.{eachIn};
 ghost use Rattle.edits.specs.Known.{Known};
-ghost use Rattle.edits.specs.Places.{Kept};
 
 // The three corners of a part: ring pair i and the new vertex.
 fn part(vs: Links, i: usize, c: u32) -> Links
@@ -156,7 +155,6 @@ pub fn poke_work(
     ensures { λ r. ⌜
         (step (meshAfter vertices positions arcs edges faces counters) r
         ≡ pokeWork (meshBefore vertices positions arcs edges faces counters) f position)
-        × Kept (now (vertices .entry)) (now (positions .entry)) (now (positions .exit))
         ⌝ }
 {
     let vs = checks::rings::vertices_of(arcs, faces, f);

@@ -22,9 +22,12 @@ meshBefore v p a e f k = mesh (now (v .entry)) (now (p .entry)) (now (a .entry))
 abbrev pub meshAfter : Lent Table → Lent (List (List Float)) → Lent Table → Lent Table → Lent Table → Lent (List ℕ) → Mesh
 meshAfter v p a e f k = mesh (now (v .exit)) (now (p .exit)) (now (a .exit)) (now (e .exit)) (now (f .exit)) (now (k .exit))
 
--- the mesh in what a function requires of its caller
+-- the mesh, and a room, in what a function requires of its caller
 abbrev pub meshNow : RefT Table → RefT (List (List Float)) → RefT Table → RefT Table → RefT Table → RefT (List ℕ) → Mesh
 meshNow v p a e f k = mesh (now v) (now p) (now a) (now e) (now f) (now k)
+
+abbrev pub roomNow : RefT Table → RefT (List (List Float)) → RefT Table → RefT Table → RefT Table → Room
+roomNow v p a e f = room (now v) (now p) (now a) (now e) (now f)
 
 -- a room as a call finds it, and as it leaves it
 abbrev pub roomBefore : Lent Table → Lent (List (List Float)) → Lent Table → Lent Table → Lent Table → Room

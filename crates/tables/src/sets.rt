@@ -1,5 +1,5 @@
 // A set of five tables: one copied over another, zeroed, and measured against the limits and against another set.
-// It carries what is kept of the mesh in room and put back, document 01's "Working room ends all zero", the limits of "Tables are
+// It carries document 01's "work in lent room, copied over only when accepted", "Working room ends all zero", the limits of "Tables are
 // lent", and "it is too small if one of them has fewer rows than the mesh table of its kind".
 
 use crate::rows;

@@ -19,7 +19,7 @@ returns : tie.Need-returns
 unfolding work
 returns c =
     let x = c .before .before .before .before .before .before .before .before .before .before .before .before .before .before .before .before .before .before .before .args in
-    (λ ks. c .before .before .before .before .before .before .before .arc-extrude-work .ensures .0 ∙ ap (λ (y : ℕ). arcExtrudeWork (mesh (x .vertices .now) (x .positions .now) (x .arcs .now) (x .edges .now) (x .faces .now) (x .counters .now)) y (x .by)) (c .before .before .before .before .before .before .before .before .before .before .before .before .before .before .before .before .arc-by-keys .ensures (x .positions .now) (x .edges .now) (x .faces .now) (x .counters .now)), c .before .before .before .before .before .before .before .arc-extrude-work .ensures .1)
+    λ ks. c .before .before .before .before .before .before .before .arc-extrude-work .ensures ∙ ap (λ (y : ℕ). arcExtrudeWork (mesh (x .vertices .now) (x .positions .now) (x .arcs .now) (x .edges .now) (x .faces .now) (x .counters .now)) y (x .by)) (c .before .before .before .before .before .before .before .before .before .before .before .before .before .before .before .before .arc-by-keys .ensures (x .positions .now) (x .edges .now) (x .faces .now) (x .counters .now))
 
 pub arc-extrude-spec : {M : Type 1} → statement M
 arc-extrude-spec =

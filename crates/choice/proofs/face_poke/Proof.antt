@@ -19,7 +19,7 @@ returns : tie.Need-returns
 unfolding work
 returns c =
     let x = c .before .before .before .before .before .before .before .before .before .before .before .before .before .before .before .before .before .before .args in
-    (λ ks. c .before .before .before .before .before .before .before .poke-work .ensures .0 ∙ ap (λ (y : ℕ). pokeWork (mesh (x .vertices .now) (x .positions .now) (x .arcs .now) (x .edges .now) (x .faces .now) (x .counters .now)) y (x .position)) (c .before .before .before .before .before .before .before .before .before .before .before .before .before .before .before .before .find-key3 .ensures), c .before .before .before .before .before .before .before .poke-work .ensures .1)
+    λ ks. c .before .before .before .before .before .before .before .poke-work .ensures ∙ ap (λ (y : ℕ). pokeWork (mesh (x .vertices .now) (x .positions .now) (x .arcs .now) (x .edges .now) (x .faces .now) (x .counters .now)) y (x .position)) (c .before .before .before .before .before .before .before .before .before .before .before .before .before .before .before .before .find-key3 .ensures)
 
 pub face-poke-spec : {M : Type 1} → statement M
 face-poke-spec =

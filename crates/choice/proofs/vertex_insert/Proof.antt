@@ -12,7 +12,6 @@ use Rattle.rules.specs.Insert.{putFace, listsOf, insertWork}
 use Rattle.rules.specs.Edit.{remove, removeWork, splitWork, pokeWork, bridgeWork, arcBridgeWork}
 use Rattle.rules.specs.Extrude.{extrudeWork, arcExtrudeWork}
 use Rattle.rules.specs.Call.{work}
-use Rattle.edits.proofs.Places.{added-none, added-one}
 use borrow.Author.Needs.{needs}
 use Rattle.choice.proofs.vertex_insert.Statement.{statement}
 use Rattle.choice.proofs.vertex_insert.Tie as tie
@@ -25,7 +24,7 @@ unfolding work
 returns c =
     let x = c .before .before .before .before .before .before .before .args in
     let made = c .before .before .new-vertex in
-    (λ a e f ks. ap (λ (t : Mesh). step t (Key (getD (x .counters .now) 0 0))) (c .before .before .new-vertex .ensures .1 a e f), added-one (x .vertices .now) (x .positions .now) (mesh (x .vertices .now) (x .positions .now) [] [] [] (x .counters .now)) (mesh (made .last .0) (made .last .1 .0) [] [] [] (made .last .1 .1 .0)) (x .position) (made .ensures .1 [] [] []) (added-none (x .vertices .now) (x .positions .now)) .kept)
+    λ a e f ks. ap (λ (t : Mesh). step t (Key (getD (x .counters .now) 0 0))) (c .before .before .new-vertex .ensures .1 a e f)
 
 pub vertex-insert-spec : {M : Type 1} → statement M
 vertex-insert-spec =

@@ -11,7 +11,6 @@ use Rattle.rules.specs.Insert.{putFace, listsOf, insertWork}
 use Rattle.rules.specs.Edit.{remove, removeWork, splitWork, pokeWork, bridgeWork, arcBridgeWork}
 use Rattle.rules.specs.Extrude.{extrudeWork, arcExtrudeWork}
 use Rattle.rules.specs.Call.{work}
-use Rattle.edits.proofs.Places.{kept-all}
 use borrow.Author.Needs.{needs}
 use Rattle.choice.proofs.work.Statement.{statement}
 use Rattle.choice.proofs.work.Tie as tie
@@ -30,7 +29,7 @@ same-length-2 c = search needs
 returns : tie.Need-returns
 returns c =
     let x = c .before .before .before .before .before .before .before .before .before .before .args in
-    (c .before .before .vertex-insert .ensures .0 (x .arcs .now) (x .edges .now) (x .faces .now) (x .keys .now) ∙ ap (λ (e : Edit). work (mesh (x .vertices .now) (x .positions .now) (x .arcs .now) (x .edges .now) (x .faces .now) (x .counters .now)) e (x .keys .now)) (sym (c .before .before .before .before .before .before .before .edit .given .1)), c .before .before .vertex-insert .ensures .1)
+    c .before .before .vertex-insert .ensures (x .arcs .now) (x .edges .now) (x .faces .now) (x .keys .now) ∙ ap (λ (e : Edit). work (mesh (x .vertices .now) (x .positions .now) (x .arcs .now) (x .edges .now) (x .faces .now) (x .counters .now)) e (x .keys .now)) (sym (c .before .before .before .before .before .before .before .edit .given .1))
 
 same-length-3 : tie.Need-same-length-3
 same-length-3 c = search needs
@@ -53,7 +52,7 @@ same-length-8 c = search needs
 returns-2 : tie.Need-returns-2
 returns-2 c =
     let x = c .before .before .before .before .before .before .before .before .before .before .before .before .before .before .before .before .before .before .args in
-    (c .before .before .before .before .before .before .face-insert .ensures (x .positions .now) ∙ ap (λ (e : Edit). work (mesh (x .vertices .now) (x .positions .now) (x .arcs .now) (x .edges .now) (x .faces .now) (x .counters .now)) e (x .keys .now)) (sym (c .before .before .before .before .before .before .before .before .before .before .before .before .before .before .before .edit2 .given .1)), kept-all (x .vertices .now) (x .positions .now))
+    c .before .before .before .before .before .before .face-insert .ensures (x .positions .now) ∙ ap (λ (e : Edit). work (mesh (x .vertices .now) (x .positions .now) (x .arcs .now) (x .edges .now) (x .faces .now) (x .counters .now)) e (x .keys .now)) (sym (c .before .before .before .before .before .before .before .before .before .before .before .before .before .before .before .edit2 .given .1))
 
 same-length-9 : tie.Need-same-length-9
 same-length-9 c = search needs
@@ -64,7 +63,7 @@ same-length-10 c = search needs
 returns-3 : tie.Need-returns-3
 returns-3 c =
     let x = c .before .before .before .before .before .before .before .before .before .args in
-    (c .before .before .face-remove .ensures (x .vertices .now) (x .positions .now) (x .edges .now) (x .counters .now) (x .keys .now) ∙ ap (λ (e : Edit). work (mesh (x .vertices .now) (x .positions .now) (x .arcs .now) (x .edges .now) (x .faces .now) (x .counters .now)) e (x .keys .now)) (sym (c .before .before .before .before .before .before .edit3 .given .1)), kept-all (x .vertices .now) (x .positions .now))
+    c .before .before .face-remove .ensures (x .vertices .now) (x .positions .now) (x .edges .now) (x .counters .now) (x .keys .now) ∙ ap (λ (e : Edit). work (mesh (x .vertices .now) (x .positions .now) (x .arcs .now) (x .edges .now) (x .faces .now) (x .counters .now)) e (x .keys .now)) (sym (c .before .before .before .before .before .before .edit3 .given .1))
 
 same-length-11 : tie.Need-same-length-11
 same-length-11 c = search needs
@@ -87,7 +86,7 @@ same-length-16 c = search needs
 returns-4 : tie.Need-returns-4
 returns-4 c =
     let x = c .before .before .before .before .before .before .before .before .before .before .before .before .before .before .before .before .before .before .args in
-    (c .before .before .before .before .before .before .face-split .ensures (x .positions .now) (x .keys .now) ∙ ap (λ (e : Edit). work (mesh (x .vertices .now) (x .positions .now) (x .arcs .now) (x .edges .now) (x .faces .now) (x .counters .now)) e (x .keys .now)) (sym (c .before .before .before .before .before .before .before .before .before .before .before .before .before .before .before .edit4 .given .1)), kept-all (x .vertices .now) (x .positions .now))
+    c .before .before .before .before .before .before .face-split .ensures (x .positions .now) (x .keys .now) ∙ ap (λ (e : Edit). work (mesh (x .vertices .now) (x .positions .now) (x .arcs .now) (x .edges .now) (x .faces .now) (x .counters .now)) e (x .keys .now)) (sym (c .before .before .before .before .before .before .before .before .before .before .before .before .before .before .before .edit4 .given .1))
 
 same-length-17 : tie.Need-same-length-17
 same-length-17 c = search needs
@@ -113,7 +112,7 @@ same-length-23 c = search needs
 returns-5 : tie.Need-returns-5
 returns-5 c =
     let x = c .before .before .before .before .before .before .before .before .before .before .before .before .before .before .before .before .before .before .before .before .args in
-    (c .before .before .before .before .before .before .before .face-poke .ensures .0 (x .keys .now) ∙ ap (λ (e : Edit). work (mesh (x .vertices .now) (x .positions .now) (x .arcs .now) (x .edges .now) (x .faces .now) (x .counters .now)) e (x .keys .now)) (sym (c .before .before .before .before .before .before .before .before .before .before .before .before .before .before .before .before .before .edit5 .given .1)), c .before .before .before .before .before .before .before .face-poke .ensures .1)
+    c .before .before .before .before .before .before .before .face-poke .ensures (x .keys .now) ∙ ap (λ (e : Edit). work (mesh (x .vertices .now) (x .positions .now) (x .arcs .now) (x .edges .now) (x .faces .now) (x .counters .now)) e (x .keys .now)) (sym (c .before .before .before .before .before .before .before .before .before .before .before .before .before .before .before .before .before .edit5 .given .1))
 
 same-length-24 : tie.Need-same-length-24
 same-length-24 c = search needs
@@ -136,7 +135,7 @@ same-length-29 c = search needs
 returns-6 : tie.Need-returns-6
 returns-6 c =
     let x = c .before .before .before .before .before .before .before .before .before .before .before .before .before .before .before .before .before .before .args in
-    (c .before .before .before .before .before .before .face-bridge .ensures (x .positions .now) (x .keys .now) ∙ ap (λ (e : Edit). work (mesh (x .vertices .now) (x .positions .now) (x .arcs .now) (x .edges .now) (x .faces .now) (x .counters .now)) e (x .keys .now)) (sym (c .before .before .before .before .before .before .before .before .before .before .before .before .before .before .before .edit6 .given .1)), kept-all (x .vertices .now) (x .positions .now))
+    c .before .before .before .before .before .before .face-bridge .ensures (x .positions .now) (x .keys .now) ∙ ap (λ (e : Edit). work (mesh (x .vertices .now) (x .positions .now) (x .arcs .now) (x .edges .now) (x .faces .now) (x .counters .now)) e (x .keys .now)) (sym (c .before .before .before .before .before .before .before .before .before .before .before .before .before .before .before .edit6 .given .1))
 
 same-length-30 : tie.Need-same-length-30
 same-length-30 c = search needs
@@ -162,7 +161,7 @@ same-length-36 c = search needs
 returns-7 : tie.Need-returns-7
 returns-7 c =
     let x = c .before .before .before .before .before .before .before .before .before .before .before .before .before .before .before .before .before .before .before .before .args in
-    (c .before .before .before .before .before .before .before .face-extrude .ensures .0 (x .keys .now) ∙ ap (λ (e : Edit). work (mesh (x .vertices .now) (x .positions .now) (x .arcs .now) (x .edges .now) (x .faces .now) (x .counters .now)) e (x .keys .now)) (sym (c .before .before .before .before .before .before .before .before .before .before .before .before .before .before .before .before .before .edit7 .given .1)), c .before .before .before .before .before .before .before .face-extrude .ensures .1)
+    c .before .before .before .before .before .before .before .face-extrude .ensures (x .keys .now) ∙ ap (λ (e : Edit). work (mesh (x .vertices .now) (x .positions .now) (x .arcs .now) (x .edges .now) (x .faces .now) (x .counters .now)) e (x .keys .now)) (sym (c .before .before .before .before .before .before .before .before .before .before .before .before .before .before .before .before .before .edit7 .given .1))
 
 same-length-37 : tie.Need-same-length-37
 same-length-37 c = search needs
@@ -185,7 +184,7 @@ same-length-42 c = search needs
 returns-8 : tie.Need-returns-8
 returns-8 c =
     let x = c .before .before .before .before .before .before .before .before .before .before .before .before .before .before .before .before .before .before .args in
-    (c .before .before .before .before .before .before .arc-bridge .ensures (x .positions .now) (x .keys .now) ∙ ap (λ (e : Edit). work (mesh (x .vertices .now) (x .positions .now) (x .arcs .now) (x .edges .now) (x .faces .now) (x .counters .now)) e (x .keys .now)) (sym (c .before .before .before .before .before .before .before .before .before .before .before .before .before .before .before .edit8 .given .1)), kept-all (x .vertices .now) (x .positions .now))
+    c .before .before .before .before .before .before .arc-bridge .ensures (x .positions .now) (x .keys .now) ∙ ap (λ (e : Edit). work (mesh (x .vertices .now) (x .positions .now) (x .arcs .now) (x .edges .now) (x .faces .now) (x .counters .now)) e (x .keys .now)) (sym (c .before .before .before .before .before .before .before .before .before .before .before .before .before .before .before .edit8 .given .1))
 
 same-length-43 : tie.Need-same-length-43
 same-length-43 c = search needs
@@ -211,7 +210,7 @@ same-length-49 c = search needs
 returns-9 : tie.Need-returns-9
 returns-9 c =
     let x = c .before .before .before .before .before .before .before .before .before .before .before .before .before .before .before .before .before .before .before .before .args in
-    (c .before .before .before .before .before .before .before .arc-extrude .ensures .0 (x .keys .now) ∙ ap (λ (e : Edit). work (mesh (x .vertices .now) (x .positions .now) (x .arcs .now) (x .edges .now) (x .faces .now) (x .counters .now)) e (x .keys .now)) (sym (c .before .before .before .before .before .before .before .before .before .before .before .before .before .before .before .before .before .edit9 .given .1)), c .before .before .before .before .before .before .before .arc-extrude .ensures .1)
+    c .before .before .before .before .before .before .before .arc-extrude .ensures (x .keys .now) ∙ ap (λ (e : Edit). work (mesh (x .vertices .now) (x .positions .now) (x .arcs .now) (x .edges .now) (x .faces .now) (x .counters .now)) e (x .keys .now)) (sym (c .before .before .before .before .before .before .before .before .before .before .before .before .before .before .before .before .before .edit9 .given .1))
 
 pub work-spec : {M : Type 1} → statement M
 work-spec =

@@ -9,22 +9,20 @@ use lib.ListN.{take, length-set}
 use Rattle.rules.specs.Table.{upTo}
 use Rattle.edges.specs.Free.{UsedBefore}
 use Rattle.edges.proofs.Searches.{used-none, next-from}
-use Rattle.edits.specs.Places.{Added}
-use Rattle.edits.proofs.Places.{added-none, added-one}
 use Rattle.edits.proofs.Whole.{copyAt, copies-more, copies-all}
 use borrow.Author.Needs.{needs}
 use Rattle.extrude.proofs.copies_in.Statement.{statement}
 use Rattle.extrude.proofs.copies_in.Tie as tie
 
 abbrev Inv-loop : tie.InvT-loop
-Inv-loop vertices₀ positions₀ counters₀ by vs n at₀ from₀ i₀ vertices positions counters at from i = (i ≤ n) × ((length vertices ≡ length vertices₀) × ((length positions ≡ length positions₀) × ((length at ≡ 64) × (UsedBefore vertices from × (Added vertices₀ positions₀ vertices positions × ((a e f : Table) → record { tables = mesh vertices positions a e f counters; links = take i at } ≡ upTo (copyAt by (listOf vs)) i (record { tables = mesh vertices₀ positions₀ a e f counters₀; links = [] })))))))
+Inv-loop vertices₀ positions₀ counters₀ by vs n at₀ from₀ i₀ vertices positions counters at from i = (i ≤ n) × ((length vertices ≡ length vertices₀) × ((length positions ≡ length positions₀) × ((length at ≡ 64) × (UsedBefore vertices from × ((a e f : Table) → record { tables = mesh vertices positions a e f counters; links = take i at } ≡ upTo (copyAt by (listOf vs)) i (record { tables = mesh vertices₀ positions₀ a e f counters₀; links = [] }))))))
 
 abbrev μ-loop : tie.MeasureT-loop
 μ-loop vertices₀ positions₀ counters₀ by vs n at₀ from₀ i₀ vertices positions counters at from i = n - i
 
 loop-holds : tie.Need-loop-holds Inv-loop μ-loop
 unfolding upTo
-loop-holds c = (search needs, (refl, (refl, (refl, (used-none (c .before .before .args .vertices .now), (added-none (c .before .before .args .vertices .now) (c .before .before .args .positions .now), λ a e f. refl))))))
+loop-holds c = (search needs, (refl, (refl, (refl, (used-none (c .before .before .args .vertices .now), λ a e f. refl)))))
 
 loop-again : tie.Need-loop-again Inv-loop μ-loop
 loop-again c =
@@ -42,7 +40,7 @@ loop-again c =
             length-set (l .at) (l .i) (g .result) ∙ v .1 .1 .0,
             (
               next-from (mesh (l .vertices) (l .positions) [] [] [] (l .counters)) (mesh (g .last .0) (g .last .1 .0) [] [] [] (g .last .1 .1 .0)) (c .before .before .before .before .before .before .moved .result) (g .result) (g .ensures .0) (g .ensures .1 [] [] []),
-              (added-one (s .vertices .now) (s .positions .now) (mesh (l .vertices) (l .positions) [] [] [] (l .counters)) (mesh (g .last .0) (g .last .1 .0) [] [] [] (g .last .1 .1 .0)) (c .before .before .before .before .before .before .moved .result) (g .ensures .1 [] [] []) (v .1 .1 .1 .1 .0), λ a e f. copies-more (s .by) (listOf (s .vs)) (record { tables = mesh (s .vertices .now) (s .positions .now) a e f (s .counters .now); links = [] }) (mesh (l .vertices) (l .positions) a e f (l .counters)) (mesh (g .last .0) (g .last .1 .0) a e f (g .last .1 .1 .0)) (l .at) (l .i) (c .before .before .before .before .before .before .before .before .before .item .result) (g .result) (c .before .before .before .before .before .before .before .position-at .result) (c .before .before .before .before .before .before .moved .result) short (v .1 .1 .1 .1 .1 a e f) (c .before .before .before .before .before .before .before .before .before .item .ensures) (c .before .before .before .before .before .before .before .position-at .ensures) (c .before .before .before .before .before .before .moved .ensures) (g .ensures .0) (g .ensures .1 a e f)),
+              λ a e f. copies-more (s .by) (listOf (s .vs)) (record { tables = mesh (s .vertices .now) (s .positions .now) a e f (s .counters .now); links = [] }) (mesh (l .vertices) (l .positions) a e f (l .counters)) (mesh (g .last .0) (g .last .1 .0) a e f (g .last .1 .1 .0)) (l .at) (l .i) (c .before .before .before .before .before .before .before .before .before .item .result) (g .result) (c .before .before .before .before .before .before .before .position-at .result) (c .before .before .before .before .before .before .moved .result) short (v .1 .1 .1 .1 a e f) (c .before .before .before .before .before .before .before .before .before .item .ensures) (c .before .before .before .before .before .before .before .position-at .ensures) (c .before .before .before .before .before .before .moved .ensures) (g .ensures .0) (g .ensures .1 a e f),
             ),
           ),
         ),
@@ -50,13 +48,11 @@ loop-again c =
     )
 
 returns : tie.Need-returns Inv-loop μ-loop
-returns c = (
-  λ a e f.
-      let s = c .before .before .before .before .args in
-      let l = c .before .loop in
-      copies-all (s .by) (listOf (s .vs)) (mesh (s .vertices .now) (s .positions .now) a e f (s .counters .now)) (mesh (l .vertices) (l .positions) a e f (l .counters)) (l .at) (l .i) (c .before .before .before .size .result) (omega arith) (c .before .before .before .size .ensures) (l .inv .1 .1 .1 .1 .1 .1 a e f),
-  c .before .loop .inv .1 .1 .1 .1 .1 .0,
-)
+returns c =
+    λ a e f.
+    let s = c .before .before .before .before .args in
+    let l = c .before .loop in
+    copies-all (s .by) (listOf (s .vs)) (mesh (s .vertices .now) (s .positions .now) a e f (s .counters .now)) (mesh (l .vertices) (l .positions) a e f (l .counters)) (l .at) (l .i) (c .before .before .before .size .result) (omega arith) (c .before .before .before .size .ensures) (l .inv .1 .1 .1 .1 .1 a e f)
 
 pub copies-in-spec : {M : Type 1} → statement M
 copies-in-spec =

@@ -1,7 +1,6 @@
 use native.Mathlib.Omega.{arith}
 use mathlib.Core.Path.{sym, _∙_}
 use Rattle.rules.specs.Mesh.{Mesh, mesh}
-use Rattle.edits.proofs.Places.{added-none, added-one}
 use Rattle.edits.proofs.Whole.{poke-steps}
 use borrow.Author.Needs.{needs}
 use Rattle.poke.proofs.poke_work.Statement.{statement}
@@ -42,9 +41,7 @@ returns c =
     let t = c .before .before .before .before .before .before .before .parts-near in
     let m : Mesh = mesh (a .vertices .now) (a .positions .now) (a .arcs .now) (a .edges .now) (a .faces .now) (a .counters .now) in
     let mₑ : Mesh = mesh (t .last .0) (n .last .1 .0) (t .last .1 .0) (t .last .1 .1 .0) (t .last .1 .1 .1 .0) (t .last .1 .1 .1 .1 .0) in
-    let before : Mesh = mesh (a .vertices .now) (a .positions .now) (d .last .0) (a .edges .now) (d .last .1 .0) (a .counters .now) in
-    let made : Mesh = mesh (n .last .0) (n .last .1 .0) (d .last .0) (a .edges .now) (d .last .1 .0) (n .last .1 .1 .0) in
-    (poke-steps m (a .f) (a .position) (c .before .before .before .before .before .before .before .before .before .before .before .before .before .before .before .before .before .before .before .before .before .before .before .before .before .before .before .before .before .vertices-of .result) (c .before .before .before .before .before .before .before .before .before .before .before .before .before .before .before .before .before .before .before .before .before .before .before .before .before .before .before .cell3 .result) (n .result) (d .last .0) (d .last .1 .0) (n .last .0) (n .last .1 .0) (n .last .1 .1 .0) mₑ (t .result) (c .answering .result) (c .before .before .before .before .before .before .before .before .before .before .before .before .before .before .before .before .before .before .before .before .before .before .before .before .before .before .before .before .before .vertices-of .ensures (a .vertices .now) (a .positions .now) (a .edges .now) (a .counters .now)) (c .before .before .before .before .before .before .before .before .before .before .before .before .before .before .before .before .before .before .before .before .before .before .before .before .before .before .before .cell3 .ensures) (d .ensures (a .vertices .now) (a .positions .now) (a .edges .now) (a .counters .now)) (n .ensures .0) (n .ensures .1 (d .last .0) (a .edges .now) (d .last .1 .0)) (t .ensures (n .last .1 .0)) (c .answering .ensures mₑ), added-one (a .vertices .now) (a .positions .now) before made (a .position) (n .ensures .1 (d .last .0) (a .edges .now) (d .last .1 .0)) (added-none (a .vertices .now) (a .positions .now)) .kept)
+    poke-steps m (a .f) (a .position) (c .before .before .before .before .before .before .before .before .before .before .before .before .before .before .before .before .before .before .before .before .before .before .before .before .before .before .before .before .before .vertices-of .result) (c .before .before .before .before .before .before .before .before .before .before .before .before .before .before .before .before .before .before .before .before .before .before .before .before .before .before .before .cell3 .result) (n .result) (d .last .0) (d .last .1 .0) (n .last .0) (n .last .1 .0) (n .last .1 .1 .0) mₑ (t .result) (c .answering .result) (c .before .before .before .before .before .before .before .before .before .before .before .before .before .before .before .before .before .before .before .before .before .before .before .before .before .before .before .before .before .vertices-of .ensures (a .vertices .now) (a .positions .now) (a .edges .now) (a .counters .now)) (c .before .before .before .before .before .before .before .before .before .before .before .before .before .before .before .before .before .before .before .before .before .before .before .before .before .before .before .cell3 .ensures) (d .ensures (a .vertices .now) (a .positions .now) (a .edges .now) (a .counters .now)) (n .ensures .0) (n .ensures .1 (d .last .0) (a .edges .now) (d .last .1 .0)) (t .ensures (n .last .1 .0)) (c .answering .ensures mₑ)
 
 pub poke-work-spec : {M : Type 1} → statement M
 poke-work-spec =

@@ -3,7 +3,6 @@ use mathlib.Core.Path.{_∙_}
 use mathlib.Core.List.{List}
 use lib.Ieee.{Float}
 use Rattle.rules.specs.Mesh.{Mesh, mesh}
-use Rattle.edits.proofs.Places.{added-none, added-one}
 use Rattle.edits.proofs.Whole.{arc-extrude-steps}
 use borrow.Author.Needs.{needs}
 use Rattle.edits.proofs.arc.arc_extrude_work.Statement.{statement}
@@ -47,10 +46,7 @@ returns c =
     let t = c .before .before .before .before .before .before .before .joined in
     let p : List (List Float) = o .last .1 .0 in
     let mₑ : Mesh = mesh (t .last .0) p (t .last .1 .0) (t .last .1 .1 .0) (t .last .1 .1 .1 .0) (t .last .1 .1 .1 .1 .0) in
-    let first : Mesh = mesh (n .last .0) (n .last .1 .0) (a .arcs .now) (a .edges .now) (a .faces .now) (n .last .1 .1 .0) in
-    let second : Mesh = mesh (o .last .0) p (a .arcs .now) (a .edges .now) (a .faces .now) (o .last .1 .1 .0) in
-    let was : Mesh = mesh (a .vertices .now) (a .positions .now) (a .arcs .now) (a .edges .now) (a .faces .now) (a .counters .now) in
-    (arc-extrude-steps (mesh (a .vertices .now) (a .positions .now) (a .arcs .now) (a .edges .now) (a .faces .now) (a .counters .now)) (a .x) (a .by) (c .before .before .before .before .before .before .before .before .before .before .before .before .before .before .before .before .before .before .before .before .before .before .before .before .before .before .before .before .before .before .before .before .before .before .before .before .before .cell6 .result) (c .before .before .before .before .before .before .before .before .before .before .before .before .before .before .before .before .before .before .before .before .before .before .before .before .before .before .before .before .before .before .before .before .before .before .before .cell62 .result) (c .before .before .before .before .before .before .before .before .before .before .before .before .before .before .before .before .before .before .before .before .before .before .before .before .before .before .before .before .before .before .before .before .position-at .result) (c .before .before .before .before .before .before .before .before .before .before .before .before .before .before .before .before .before .before .before .before .before .before .before .before .before .before .before .before .before .before .before .moved .result) (c .before .before .before .before .before .before .before .before .before .before .before .before .before .before .before .before .before .before .before .before .before .before .position-at2 .result) (c .before .before .before .before .before .before .before .before .before .before .before .before .before .before .before .before .before .before .before .before .before .moved2 .result) (n .result) (o .result) (n .last .0) (n .last .1 .0) (n .last .1 .1 .0) (o .last .0) (o .last .1 .0) (o .last .1 .1 .0) mₑ (t .result) (c .answering .result) (c .before .before .before .before .before .before .before .before .before .before .before .before .before .before .before .before .before .before .before .before .before .before .before .before .before .before .before .before .before .before .before .before .before .before .before .before .before .cell6 .ensures) (c .before .before .before .before .before .before .before .before .before .before .before .before .before .before .before .before .before .before .before .before .before .before .before .before .before .before .before .before .before .before .before .before .before .before .before .cell62 .ensures) (c .before .before .before .before .before .before .before .before .before .before .before .before .before .before .before .before .before .before .before .before .before .before .before .before .before .before .before .before .before .before .before .before .position-at .ensures) (c .before .before .before .before .before .before .before .before .before .before .before .before .before .before .before .before .before .before .before .before .before .before .before .before .before .before .before .before .before .before .before .moved .ensures) (n .ensures .0) (n .ensures .1 (a .arcs .now) (a .edges .now) (a .faces .now)) (c .before .before .before .before .before .before .before .before .before .before .before .before .before .before .before .before .before .before .before .before .before .before .position-at2 .ensures) (c .before .before .before .before .before .before .before .before .before .before .before .before .before .before .before .before .before .before .before .before .before .moved2 .ensures) (o .ensures .0) (o .ensures .1 (a .arcs .now) (a .edges .now) (a .faces .now)) (t .ensures p) (c .answering .ensures mₑ), added-one (a .vertices .now) (a .positions .now) first second _ (o .ensures .1 (a .arcs .now) (a .edges .now) (a .faces .now)) (added-one (a .vertices .now) (a .positions .now) was first _ (n .ensures .1 (a .arcs .now) (a .edges .now) (a .faces .now)) (added-none (a .vertices .now) (a .positions .now))) .kept)
+    arc-extrude-steps (mesh (a .vertices .now) (a .positions .now) (a .arcs .now) (a .edges .now) (a .faces .now) (a .counters .now)) (a .x) (a .by) (c .before .before .before .before .before .before .before .before .before .before .before .before .before .before .before .before .before .before .before .before .before .before .before .before .before .before .before .before .before .before .before .before .before .before .before .before .before .cell6 .result) (c .before .before .before .before .before .before .before .before .before .before .before .before .before .before .before .before .before .before .before .before .before .before .before .before .before .before .before .before .before .before .before .before .before .before .before .cell62 .result) (c .before .before .before .before .before .before .before .before .before .before .before .before .before .before .before .before .before .before .before .before .before .before .before .before .before .before .before .before .before .before .before .before .position-at .result) (c .before .before .before .before .before .before .before .before .before .before .before .before .before .before .before .before .before .before .before .before .before .before .before .before .before .before .before .before .before .before .before .moved .result) (c .before .before .before .before .before .before .before .before .before .before .before .before .before .before .before .before .before .before .before .before .before .before .position-at2 .result) (c .before .before .before .before .before .before .before .before .before .before .before .before .before .before .before .before .before .before .before .before .before .moved2 .result) (n .result) (o .result) (n .last .0) (n .last .1 .0) (n .last .1 .1 .0) (o .last .0) (o .last .1 .0) (o .last .1 .1 .0) mₑ (t .result) (c .answering .result) (c .before .before .before .before .before .before .before .before .before .before .before .before .before .before .before .before .before .before .before .before .before .before .before .before .before .before .before .before .before .before .before .before .before .before .before .before .before .cell6 .ensures) (c .before .before .before .before .before .before .before .before .before .before .before .before .before .before .before .before .before .before .before .before .before .before .before .before .before .before .before .before .before .before .before .before .before .before .before .cell62 .ensures) (c .before .before .before .before .before .before .before .before .before .before .before .before .before .before .before .before .before .before .before .before .before .before .before .before .before .before .before .before .before .before .before .before .position-at .ensures) (c .before .before .before .before .before .before .before .before .before .before .before .before .before .before .before .before .before .before .before .before .before .before .before .before .before .before .before .before .before .before .before .moved .ensures) (n .ensures .0) (n .ensures .1 (a .arcs .now) (a .edges .now) (a .faces .now)) (c .before .before .before .before .before .before .before .before .before .before .before .before .before .before .before .before .before .before .before .before .before .before .position-at2 .ensures) (c .before .before .before .before .before .before .before .before .before .before .before .before .before .before .before .before .before .before .before .before .before .moved2 .ensures) (o .ensures .0) (o .ensures .1 (a .arcs .now) (a .edges .now) (a .faces .now)) (t .ensures p) (c .answering .ensures mₑ)
 
 pub arc-extrude-work-spec : {M : Type 1} → statement M
 arc-extrude-work-spec =

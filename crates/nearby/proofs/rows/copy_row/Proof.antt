@@ -15,7 +15,7 @@ returns-3 : tie.Need-returns-3
 returns-3 c =
     let w = c .before .before .wide in
     let a = c .before .before .before .before .args in
-    copied-row (a .from .now) (a .to .now) (a .x) (w .result - 1) (omega (arith, w .ensures)) (omega (arith, c .before .before .before .if1 .left)) (c .before .before .before .before .pre)
+    copied-row (a .from .now) (a .to .now) (w .result - 1) (a .x) (omega (arith, w .ensures))
 
 pub copy-row-spec : {M : Type 1} → statement M
 copy-row-spec =
