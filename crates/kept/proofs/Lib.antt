@@ -54,3 +54,5 @@ pub mod NeverTwice
 pub mod RemovedKey
 pub mod Returned
 pub mod Witness
+pub mod RecordsStay
+pub mod Unreached

@@ -7,3 +7,4 @@ pub mod Suffices
 pub mod Local
 pub mod Exactly
 pub mod Counters
+pub mod Unreached
