@@ -56,3 +56,4 @@ pub mod Returned
 pub mod Witness
 pub mod RecordsStay
 pub mod Unreached
+pub mod InTurn
