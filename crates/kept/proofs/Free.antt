@@ -3,20 +3,20 @@
 use Prim.Native.Nat.{ℕ, _+_, suc, _-_, _≤_, _<_}
 use native.Mathlib.Omega.{arith}
 use mathlib.Core.Path.{_≡_, ap, sym, subst, _∙_}
-use mathlib.Core.Bool.{true, not}
+use mathlib.Core.Bool.{Bool, true, false, not, cond}
 use mathlib.Core.List.{List, []}
 use mathlib.Core.Logic.{_⊎_, inl, inr}
 use native.Mathlib.Decide.{ℕ-discrete}
 use lib.ListN.{length, getD}
-use lib.Dec.{T, eqb}
+use lib.Dec.{T, eqb, leb}
 use borrow.Author.Tests.{ne-eqb, le-leb, eqb-true}
-use Rattle.rules.specs.Table.{Table, cell, putRow, there, unused, used, firstRow, freeRow, count, sumBelow}
+use Rattle.rules.specs.Table.{Table, cell, putRow, there, unused, used, firstRow, rowLimit, freeRow, count, sumBelow}
 use Rattle.rules.specs.Mesh.{keyAt}
 use Rattle.rules.proofs.Scan.{first-le}
 use Rattle.rules.proofs.Sums.{sum-ext, count-sum}
 use Rattle.rules.proofs.Counts.{bit, count-set, count-found, found-passes}
 use Rattle.proved.specs.Facts.{KeysDiffer, KeysBelow, UnusedZero}
-use Rattle.proved.proofs.Rows.{cell-row, T-false, differ, differ-T}
+use Rattle.proved.proofs.Rows.{cell-row, T-false, differ, differ-T, in-table}
 use Rattle.kept.specs.Frame.{Took}
 use Rattle.kept.proofs.Cells.{cell-some, putRow-here, putRow-other, putRow-rows}
 
@@ -57,6 +57,19 @@ module _ (t : Table) (s : length t ≤ 16384) (h : 1 ≤ count unused t) where
         rows = putRow-rows t (freeRow t) r;
         fewer = free-fewer r u;
       }
+
+-- whether there is one or not, it is no row in use
+pub free-differs : (t : Table) (l : ℕ) → T (there t l) → l ≡ freeRow t → ⊥
+unfolding freeRow
+free-differs t l u e = go (leb (length t) rowLimit) e
+  where
+    go : (b : Bool) → l ≡ cond b (firstRow unused t) 0 → ⊥
+    go true q =
+        let first = firstRow unused t in
+        let w = in-table t l u in
+        let zero = eqb-true (getD (getD t (first - 1) []) 0 0) 0 (found-passes unused t [] (omega arith)) in
+        differ (cell t l 0) 0 u (ap (λ (z : ℕ). cell t z 0) q ∙ cell-some t first 0 (omega arith) ∙ zero)
+    go false q = let w = in-table t l u in omega arith
 
 -- ---- rows of a table that took one
 

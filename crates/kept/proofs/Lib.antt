@@ -54,3 +54,6 @@ pub mod NeverTwice
 pub mod RemovedKey
 pub mod Returned
 pub mod Witness
+pub mod RecordsStay
+pub mod Unreached
+pub mod InTurn

@@ -78,7 +78,7 @@ module _ (m : Mesh) (keys : List ℕ) (limit : length keys ≤ 64) (q : Passed m
   abbrev per : List ℕ
   per = byKeys m keys
 
-  as-long : length per ≡ length keys
+  pub as-long : length per ≡ length keys
   unfolding byKeys
   as-long = length-map keys (findVertex m)
 
@@ -86,7 +86,7 @@ module _ (m : Mesh) (keys : List ℕ) (limit : length keys ≤ 64) (q : Passed m
   unfolding byKeys
   named i l = map-at (findVertex m) keys i 0 0 l
 
-  found : (i : ℕ) → i < length keys → IsVertex m (getD per i 0) × (keyAt (m .vertices) (getD per i 0) ≡ getD keys i 0)
+  pub found : (i : ℕ) → i < length keys → IsVertex m (getD per i 0) × (keyAt (m .vertices) (getD per i 0) ≡ getD keys i 0)
   found i l = rw (named i l) (find-back (m .vertices) (getD keys i 0) some)
     where
       some : findVertex m (getD keys i 0) ≡ 0 → ⊥

@@ -1,4 +1,5 @@
--- A ring whose arcs are kept is the same ring: as many arcs hold the face, in the same order. So it is where they keep their rows.
+-- A ring whose arcs are kept is the same ring: as many arcs hold the face, in the same order, and it is the same list. So it is where they keep
+-- their rows.
 use Prim.Native.Nat.{ℕ, zero, suc, _+_, _-_, _≤_, _<_}
 use native.Mathlib.Omega.{arith}
 use native.Mathlib.Decide.{ℕ-discrete}
@@ -8,7 +9,8 @@ use mathlib.Core.List.{[]}
 use lib.ListN.{length, getD}
 use lib.Dec.{T, eqb}
 use Rattle.rules.specs.Table.{sumBelow}
-use Rattle.rules.specs.Mesh.{Mesh, source, next, previous, faceArc}
+use Rattle.rules.specs.Mesh.{Mesh, ringLimit, source, next, previous, faceArc}
+use Rattle.rules.specs.Link.{walk, ring}
 use Rattle.rules.proofs.Counts.{bit}
 use Rattle.rules.proofs.Sums.{same-test, sum-ext, count-sum}
 use Rattle.proved.specs.Demand.{holds, Holds, holders, onward}
@@ -59,6 +61,28 @@ module _ (m : Mesh) (f : ℕ) (r : RingFacts m f) where
 
       go : (k : ℕ) × (k < holders m f) × (onward m f k ≡ x) → Holds m f (previous m x)
       go w = at (w .0) (w .1) (w .2)
+
+-- ---- the same ring as a list
+
+-- a face's record names an arc that holds it
+pub first-holds : (m : Mesh) (f : ℕ) → RingFacts m f → Holds m f (faceArc m f)
+first-holds m f r = subst (Holds m f) (times-none (next m) (faceArc m f)) (r .each-holds 0 (omega (arith, r .at-least-3)))
+
+-- a walk by another step is the same where the two agree on all that it comes to
+walk-same : (P : ℕ → Type 0) (step other : ℕ → ℕ) (first : ℕ) → ((x : ℕ) → P x → other x ≡ step x) → ((x : ℕ) → P x → P (step x))
+    → (n x : ℕ) → P x → walk other first n x ≡ walk step first n x
+unfolding walk
+walk-same P step other first same on zero x p = refl
+walk-same P step other first same on (suc n) zero p = refl
+walk-same P step other first same on (suc n) (suc x) p =
+    rw (same (suc x) p, walk-same P step other first same on n (step (suc x)) (on (suc x) p))
+
+pub ring-same : (m n : Mesh) (f : ℕ) → RingFacts m f → faceArc n f ≡ faceArc m f → ((x : ℕ) → Holds m f x → next n x ≡ next m x)
+    → ring n f ≡ ring m f
+unfolding ring
+ring-same m n f r first same =
+    let x = faceArc m f in
+    rw first (walk-same (Holds m f) (next m) (next n) x same (next-holds m f r) ringLimit x (first-holds m f r))
 
 -- ---- a ring that is kept, by what its facts read
 

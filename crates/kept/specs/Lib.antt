@@ -7,3 +7,5 @@ pub mod Suffices
 pub mod Local
 pub mod Exactly
 pub mod Counters
+pub mod Unreached
+pub mod InTurn

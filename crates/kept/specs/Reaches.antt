@@ -6,7 +6,8 @@ use mathlib.Core.Logic.{_⊎_}
 use lib.ListN.{length}
 use lib.Dec.{T}
 use Rattle.rules.specs.Table.{cell, after, has, count, unused}
-use Rattle.rules.specs.Mesh.{Mesh, source, dest, next, previous, face, edge, faceArc, mark, findVertex, vertexKind, edgeKind, faceKind, nextKey}
+use Rattle.rules.specs.Mesh.{Mesh, source, dest, next, previous, face, edge, faceArc, mark, keyAt, findVertex, vertexKind, edgeKind, faceKind, nextKey}
+use Rattle.rules.specs.Point.{positionAt}
 use Rattle.rules.specs.Insert.{arcAt}
 use Rattle.rules.specs.Call.{pairsWithout}
 use Rattle.proved.specs.Demand.{Holds}
@@ -77,6 +78,12 @@ pub record KeepsEnds (m n : Mesh) : Type 0 where
   pub vertices : (v : ℕ) → IsVertex m v → IsVertex n v
   pub arc-rows : length (n .arcs) ≡ length (m .arcs)
   pub counter-rows : length (n .counters) ≡ length (m .counters)
+
+-- a vertex of m is there in n, with its key and its position; its leading arc may be another
+pub record KeepsKeyAndPosition (m n : Mesh) (v : ℕ) : Type 0 where
+  pub exists : IsVertex n v
+  pub same-key : keyAt (n .vertices) v ≡ keyAt (m .vertices) v
+  pub same-position : positionAt (n .positions) v ≡ positionAt (m .positions) v
 
 -- the face g has in n the record it has in m, and the same ring, arc for arc
 pub record SameRing (m n : Mesh) (g : ℕ) : Type 0 where
