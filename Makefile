@@ -1,10 +1,11 @@
 # make alone prints the targets.
 
-.PHONY: help test wrong run compare lib archive examples rusttest bench
+.PHONY: help test names wrong run compare lib archive examples rusttest bench
 
 help:
 	@echo 'make run      run meshrun on SCRIPT (default examples/q.script)'
 	@echo 'make test     prove every crate, try the must-fail edits, run every program'
+	@echo 'make names    check that every name in README.md and docs is there (needs python3; make test does it first, where there is one)'
 	@echo 'make wrong    prove every crate and try every must-fail edit, those too that make test leaves out (three quarters of an hour)'
 	@echo 'make lib      write target/lib/libullarvesp.a, for C and Rust on x86-64 to link (header: include/ullarvesp.h, crate: rust)'
 	@echo 'make examples build and run the examples in C and Rust, and compare what they print (needs cc, cargo)'
@@ -25,7 +26,14 @@ needs_cc = $(call needs,$(CC),Install a C compiler.)
 # A crate takes up to 3.5 GB. RT_JOBS sets another number.
 test:
 	@$(needs_rt)
+	@! command -v python3 > /dev/null 2>&1 || python3 docs/check-names >&2
 	@RT_JOBS=$${RT_JOBS:-5} exec rt ci
+
+# Definitions, theorems, functions, must-fail edits, files and links that the documents name. docs/check-names says by which rule.
+names:
+	@$(needs_python)
+	@python3 docs/check-names
+	@echo 'make names: all that README.md and docs name is there'
 
 # The edits under must-fail/more are of crates that take long to prove. rt tries what stands in must-fail alone, so a copy of the crates has all there.
 wrong:

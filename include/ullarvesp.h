@@ -1,7 +1,7 @@
 /* Ullarvesp: mesh edits for a pattern drawer, for programs in C (and C++). Link with libullarvesp.a, written by `make lib` for x86-64 Linux.
  *
  * The library keeps nothing and allocates nothing: the caller lends it five tables that hold the mesh, three counters, and two sets of the
- * same tables as working room. Every call answers by a number, 0 or a refusal. The rule book is docs/01-scope.md ("document 01"). Each call
+ * same tables as working room. Every call answers by a number, 0 or a refusal. The rule book is docs/RULES.md. Each call
  * is proved to answer and to leave exactly what its definition says (crates/calls/src, crates/rules/specs/Call.antt).
  *
  *   in the workshop: panel    in the library: face
@@ -111,7 +111,7 @@ typedef struct {
 
 /* ---- Answers ------------------------------------------------------------------------------------------------------------------------ */
 
-/* Document 01's numbers. Where two refusals could be given, the order is: 1; 2 for what the caller gave; 3 to 6 as each call checks;
+/* The rule book's numbers. Where two refusals could be given, the order is: 1; 2 for what the caller gave; 3 to 6 as each call checks;
  * 2 for moved coordinates; 7; 3 to 6 found in mid-edit; 8. */
 enum {
     UL_DONE = 0,

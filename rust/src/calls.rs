@@ -13,7 +13,7 @@
 use crate::refusal::Refusal;
 use crate::tables::{ArcRow, Counters, EdgeRow, FaceRow, PositionRow, Tables, VertexRow};
 
-/// What a call answers: document 01's number, 0 or a refusal's, and the values of an accepted call; all the others are 0.
+/// What a call answers: a number, 0 if it is accepted and else a refusal's, and the values of an accepted call; all the others are 0.
 #[derive(Clone, Copy, Debug, Default, PartialEq, Eq)]
 #[repr(C)]
 #[allow(missing_docs)]
@@ -27,12 +27,28 @@ pub struct Reply {
 }
 
 impl Reply {
-    /// The reply of an accepted call, or the refusal.
+    /// The reply of an accepted call, whose number is 0, or the refusal: every other number, whether this crate has a name for it or not.
     pub fn accepted(self) -> Result<Reply, Refusal> {
         match Refusal::from_number(self.number) {
             None => Ok(self),
             Some(refusal) => Err(refusal),
         }
+    }
+}
+
+#[cfg(test)]
+mod tests {
+    use super::{Refusal, Reply};
+
+    #[test]
+    fn zero_alone_is_accepted() {
+        let reply = |number| Reply { number, key: 5, ..Reply::default() };
+        assert_eq!(reply(0).accepted(), Ok(reply(0)));
+        for number in (1..20).chain([u32::MAX]) {
+            assert_eq!(reply(number).accepted().map_err(Refusal::number), Err(number));
+        }
+        assert_eq!(reply(3).accepted(), Err(Refusal::TopologyMalformed));
+        assert_eq!(reply(99).accepted(), Err(Refusal::Unknown(99)));
     }
 }
 

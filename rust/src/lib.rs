@@ -1,10 +1,10 @@
 //! Mesh edits for a pattern drawer: panels are faces, seams are edges, each side of a seam is an arc.
 //!
 //! This crate is safe types over `libullarvesp.a`, whose calls are proved: each answers and leaves exactly what its definition says, and
-//! **an edit that is refused has changed nothing**. The rule book is `docs/01-scope.md` of the repository ("document 01").
+//! **an edit that is refused has changed nothing**. The rule book is `docs/RULES.md` of the repository.
 //!
 //! A [`Mesh`] owns its tables, of a size chosen once, its counters and the working room. Its edits take and return keys; a refusal is an
-//! error, [`Refusal`], by document 01's names.
+//! error, [`Refusal`], by the rule book's names.
 //!
 //! ```
 //! use ullarvesp::{Mesh, Move, Refusal};
