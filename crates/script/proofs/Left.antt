@@ -1,26 +1,25 @@
 -- The laws of a field's number and coordinate, and of the fields that are left, read one after the other. Assumes nothing.
-use Prim.Native.Nat.{ℕ, zero, suc, _+_, _-_, _≤_, _<_}
+use Prim.Native.Nat.{ℕ, zero, suc, _+_, _-_, _*_, _≤_, _<_}
 use native.Mathlib.Numerals.{add-one}
 use native.Mathlib.Omega.{arith}
 use native.Mathlib.Decide.{decLe, ℕ-discrete}
 use mathlib.Core.Path.{_≡_, refl, ap, sym, _∙_}
 use mathlib.Core.Bool.{Bool, true, false, cond}
 use mathlib.Core.List.{List, [], _∷_, _++_, append-assoc, append-nil}
-use lib.ListN.{length, getD, take, drop, set, replicate, take-append-drop}
+use lib.ListN.{length, getD, take, drop, set, replicate, length-set, take-append-drop}
 use lib.Seq.{slice, slice-cons, slice-empty, length-slice, take-suc-set, drop-set-lt, length-take-le, drop-drop}
-use lib.Dec.{eqb}
+use lib.Dec.{eqb, leb}
 use lib.IntN.{ℤ}
 use borrow.Author.Tests.{le-leb, lt-leb, ne-eqb}
 use Rattle.rules.specs.Point.{position}
 use Rattle.rules.specs.Script.{Text, Reading, unread, reads, Whole, noWhole, whole, wholeOf, Numbers, noNumbers, numbers, noPoint, point, numberIn, coordinateIn, digitsUpTo, floatOf, oneMore, numbersIn, pointOf, pointIn}
-use Rattle.script.specs.declared.Letter.the-variants.{Is, NoLetter}
 use Rattle.script.specs.declared.Digits.the-variants.{Value, Unread}
 use Rattle.script.specs.declared.Field.{Field}
 use Rattle.script.specs.declared.Field.the-variants.{Number, NoNumber}
 use Rattle.script.specs.declared.Offset.the-variants.{Coordinate, NoCoordinate}
 use Rattle.script.specs.declared.Spot.the-variants.{At, Nowhere}
-use Rattle.script.specs.declared.Keys.{Keys}
-use Rattle.script.specs.Fields.{endOf, fieldAt, fieldsFrom, letterOf, letterAt, digitsOf, fieldOf, numberAt, signedOf, offsetOf, coordinateAt, spotOf, padded, noKeys, keysOf}
+use Rattle.script.specs.declared.Numbers.{Numbers as ReadNumbers}
+use Rattle.script.specs.Fields.{endOf, fieldAt, fieldsFrom, placeAfter, letterOf, letterAt, digitsOf, fieldOf, numberAt, signedOf, offsetOf, coordinateAt, spotOf, padded, noneFrom, numbersOf, numbersAt}
 use Rattle.script.proofs.Places.{end-within, end-from, fields-first, fields-none}
 
 pub differ : (a b : ℕ) → a ≤ b → (a ≡ b → ⊥) → a < b
@@ -95,28 +94,29 @@ module _ (text : Text) (at : ℕ) (h : at ≤ length text) where
 
 -- ---- a letter
 
-letter-other : (f : Text) (next : ℕ) → (length f ≡ 1 → ⊥) → letterOf f next ≡ NoLetter
+letter-other : (f : Text) → (length f ≡ 1 → ⊥) → letterOf f ≡ 0
 unfolding letterOf
-letter-other [] next h = refl
-letter-other (c ∷ []) next h = absurd (h refl)
-letter-other (c ∷ d ∷ f) next h = refl
+letter-other [] h = refl
+letter-other (c ∷ []) h = absurd (h refl)
+letter-other (c ∷ d ∷ f) h = refl
 
-pub letter-past : (text : Text) (at : ℕ) → length text < at → letterAt text at ≡ NoLetter
+pub letter-past : (text : Text) (at : ℕ) → length text < at → letterAt text at ≡ record { byte = 0; next = at }
 unfolding letterAt
 letter-past text at h = rw (lt-leb at (length text) h)
 
 module _ (text : Text) (at : ℕ) (h : at ≤ length text) where
-  pub letter-not : (endOf text at ≡ at + 1 → ⊥) → letterAt text at ≡ NoLetter
+  pub letter-not : (endOf text at ≡ at + 1 → ⊥) → letterAt text at ≡ record { byte = 0; next = endOf text at + 1 }
   unfolding letterAt fieldAt
   letter-not n =
-      rw (le-leb at (length text) h)
-      (letter-other (slice at (endOf text at) text) (endOf text at + 1)
-      (λ q. n (omega (arith, q, length-slice at (endOf text at) text (end-within text at h)))))
+      rw (
+        le-leb at (length text) h,
+        letter-other (slice at (endOf text at) text) (λ q. n (omega (arith, q, length-slice at (endOf text at) text (end-within text at h)))),
+      )
 
   pub letter-in : endOf text at ≡ at + 1 → at < length text
   letter-in e = omega (arith, end-within text at h)
 
-  pub letter-is : endOf text at ≡ at + 1 → letterAt text at ≡ Is (getD text at 0) (endOf text at + 1)
+  pub letter-is : endOf text at ≡ at + 1 → letterAt text at ≡ record { byte = getD text at 0; next = endOf text at + 1 }
   unfolding letterAt fieldAt letterOf
   letter-is e =
       let l : at + 1 ≤ length text = rw e at (end-within text at h) in
@@ -284,6 +284,7 @@ pub record NumberIs (text : Text) (at v next : ℕ) : Type 0 where
   pub here : at ≤ length text
   pub far : at + 2 ≤ next
   pub near : next ≤ length text + 1
+  pub place : next ≡ endOf text at + 1
 
 field-is : (r : Reading) (next v n : ℕ) → fieldOf r next ≡ Number v n → (r ≡ reads v) × (n ≡ next)
 unfolding fieldOf
@@ -319,7 +320,7 @@ number-is text at v next e = go (decLe at (length text))
     go (yes h) =
         let l : at < endOf text at = number-far text at v h (f .0) in
         let w : endOf text at ≤ length text = end-within text at h in
-        record { first = f .0; others = ap (fieldsFrom text) (f .1) ∙ rest-from text at; here = h; far = omega (arith, f .1); near = omega (arith, f .1) }
+        record { first = f .0; others = ap (fieldsFrom text) (f .1) ∙ rest-from text at; here = h; far = omega (arith, f .1); near = omega (arith, f .1); place = f .1 }
     go (no n) =
         let z : _≡_ {A = Field} (Number v next) NoNumber = sym e ∙ number-past text at (omega arith) in
         let y : _≡_ {A = ℕ} 0 1 = cc in
@@ -345,50 +346,115 @@ unfolding behind oneMore
 behind-one vs v noNumbers = refl
 behind-one vs v (numbers ws) = ap numbers (sym (append-assoc vs (v ∷ []) ws))
 
-pub first-reads : (fs : List Text) (v : ℕ) → firstNumber fs ≡ reads v → numbersIn fs ≡ oneMore (reads v) (numbersIn (rest fs))
+module _ (k : ℕ) where
+  first-reads : (fs : List Text) (v : ℕ) → firstNumber fs ≡ reads v → numbersIn (take (suc k) fs) ≡ oneMore (reads v) (numbersIn (take k (rest fs)))
+  unfolding numbersIn
+  first-reads [] v e = let z : _≡_ {A = ℕ} 0 1 = cc in let b : ⊥ = omega arith in absurd b
+  first-reads (f ∷ fs) v e = rw e
+
+  first-unread : (f : Text) (fs : List Text) → numberIn f ≡ unread → numbersIn (take (suc k) (f ∷ fs)) ≡ noNumbers
+  unfolding numbersIn oneMore
+  first-unread f fs e = rw e
+
+  numbers-next : (text : Text) (at v next : ℕ) → NumberIs text at v next
+      → numbersIn (take (suc k) (fieldsFrom text at)) ≡ oneMore (reads v) (numbersIn (take k (fieldsFrom text next)))
+  numbers-next text at v next n = rw (n .others) (first-reads (fieldsFrom text at) v (n .first))
+
+  numbers-unread : (text : Text) (at : ℕ) → at ≤ length text → numberAt text at ≡ NoNumber → numbersIn (take (suc k) (fieldsFrom text at)) ≡ noNumbers
+  numbers-unread text at h e =
+      let f : numberIn (fieldAt text at) ≡ unread = ap firstNumber (sym (fields-first text at h)) ∙ number-is-not text at e in
+      ap (λ (l : List Text). numbersIn (take (suc k) l)) (fields-first text at h) ∙ first-unread (fieldAt text at) (fieldsFrom text (endOf text at + 1)) f
+
+  place-next : (text : Text) (at next : ℕ) → at ≤ length text → next ≡ endOf text at + 1 → placeAfter (suc k) text at ≡ placeAfter k text next
+  unfolding placeAfter
+  place-next text at next h e = rw (le-leb at (length text) h, e)
+
+take-none : (k : ℕ) → take {A = Text} k [] ≡ []
+take-none zero = refl
+take-none (suc k) = refl
+
+numbers-end : (k : ℕ) (text : Text) (at : ℕ) → length text < at → numbersIn (take k (fieldsFrom text at)) ≡ numbers []
 unfolding numbersIn
-first-reads [] v e = let z : _≡_ {A = ℕ} 0 1 = cc in let b : ⊥ = omega arith in absurd b
-first-reads (f ∷ fs) v e = rw e
+numbers-end k text at h = rw (fields-none text at h, take-none k)
 
-first-unread : (f : Text) (fs : List Text) → numberIn f ≡ unread → numbersIn (f ∷ fs) ≡ noNumbers
-unfolding numbersIn oneMore
-first-unread f fs e = rw e
+place-end : (k : ℕ) (text : Text) (at : ℕ) → length text < at → placeAfter k text at ≡ at
+unfolding placeAfter
+place-end zero text at h = refl
+place-end (suc k) text at h = rw (lt-leb at (length text) h)
 
-pub numbers-next : (text : Text) (at v next : ℕ) → NumberIs text at v next → numbersIn (fieldsFrom text at) ≡ oneMore (reads v) (numbersIn (fieldsFrom text next))
-numbers-next text at v next n = rw (n .others) (first-reads (fieldsFrom text at) v (n .first))
+-- the place after so many fields is where the others begin
+pub place-others : (k : ℕ) (text : Text) (at : ℕ) → fieldsFrom text (placeAfter k text at) ≡ drop k (fieldsFrom text at)
+unfolding placeAfter
+place-others zero text at = refl
+place-others (suc k) text at = go (decLe at (length text)) (place-others k text (endOf text at + 1))
+  where
+    go : Dec (at ≤ length text) → fieldsFrom text (placeAfter k text (endOf text at + 1)) ≡ drop k (fieldsFrom text (endOf text at + 1))
+        → fieldsFrom text (cond (leb at (length text)) (placeAfter k text (endOf text at + 1)) at) ≡ drop (suc k) (fieldsFrom text at)
+    go (yes h) e = rw (le-leb at (length text) h, fields-first text at h) e
+    go (no n) e = let l : length text < at = omega arith in rw (lt-leb at (length text) l, fields-none text at l)
 
-pub numbers-unread : (text : Text) (at : ℕ) → at ≤ length text → numberAt text at ≡ NoNumber → numbersIn (fieldsFrom text at) ≡ noNumbers
-numbers-unread text at h e =
-    let f : numberIn (fieldAt text at) ≡ unread = ap firstNumber (sym (fields-first text at h)) ∙ number-is-not text at e in
-    ap numbersIn (fields-first text at h) ∙ first-unread (fieldAt text at) (fieldsFrom text (endOf text at + 1)) f
-
-pub numbers-end : (text : Text) (at : ℕ) → length text < at → numbersIn (fieldsFrom text at) ≡ numbers []
-unfolding numbersIn
-numbers-end text at h = ap numbersIn (fields-none text at h)
+-- ---- numbers in hand, and those that are left: at most so many all in all
 
 drop-replicate : (n : ℕ) → drop {A = ℕ} 1 (replicate n 0) ≡ replicate (n - 1) 0
 drop-replicate zero = refl
 drop-replicate (suc n) = let e : suc n - 1 ≡ n = omega arith in rw e
 
-module _ (values : List ℕ) (count : ℕ) (full : length values ≡ 256) (zeros : drop count values ≡ replicate (256 - count) 0) where
-  pub keys-zeros : (v : ℕ) → count < 256 → drop (count + 1) (set values count v) ≡ replicate (256 - (count + 1)) 0
-  keys-zeros v h =
+pub record InHand (text : Text) (from most : ℕ) (values : List ℕ) (count at : ℕ) : Type 0 where
+  pub full : length values ≡ 256
+  pub zeros : drop count values ≡ replicate (256 - count) 0
+  pub few : count ≤ most
+  pub room : count ≤ 256
+  pub far : from + 2 * count ≤ at
+  pub all : numbersIn (take most (fieldsFrom text from)) ≡ behind (take count values) (numbersIn (take (most - count) (fieldsFrom text at)))
+  pub place : placeAfter most text from ≡ placeAfter (most - count) text at
+
+pub hand-begin : (text : Text) (from most : ℕ) → InHand text from most (replicate 256 0) 0 from
+hand-begin text from most =
+    let z : most - 0 ≡ most = omega arith in
+    record { full = refl; zeros = refl; few = omega arith; room = omega arith; far = omega arith; all = rw z (behind-none (numbersIn (take most (fieldsFrom text from)))); place = rw z }
+
+module _ (text : Text) (from most : ℕ) (values : List ℕ) (count at : ℕ) (h : InHand text from most values count at) where
+  pub hand-room : (v next : ℕ) → NumberIs text at v next → length text ≤ 512 → count < 256
+  hand-room v next n s = omega (arith, h .far, n .far, n .near)
+
+  pub hand-more : (v next : ℕ) → NumberIs text at v next → count < 256 → (count ≡ most → ⊥) → InHand text from most (set values count v) (count + 1) next
+  hand-more v next n room other =
+      let lt : count < most = differ count most (h .few) other in
+      let k : most - count ≡ suc (most - (count + 1)) = omega arith in
+      let i : count < length values = omega (arith, h .full) in
       let e : 256 - count - 1 ≡ 256 - (count + 1) = omega arith in
-      drop-set-lt (count + 1) values count v (omega arith) ∙ sym (drop-drop 1 count values) ∙ ap (drop 1) zeros ∙ drop-replicate (256 - count) ∙ rw e
+      record {
+        full = length-set values count v ∙ h .full;
+        zeros =
+            drop-set-lt (count + 1) values count v (omega arith) ∙ sym (drop-drop 1 count values) ∙ ap (drop 1) (h .zeros) ∙ drop-replicate (256 - count) ∙ rw e;
+        few = omega arith;
+        room = omega arith;
+        far = omega (arith, h .far, n .far);
+        all =
+            h .all ∙ ap (λ (m : ℕ). behind (take count values) (numbersIn (take m (fieldsFrom text at)))) k
+            ∙ ap (behind (take count values)) (numbers-next (most - (count + 1)) text at v next n)
+            ∙ behind-one (take count values) v (numbersIn (take (most - (count + 1)) (fieldsFrom text next)))
+            ∙ rw (add-one count, take-suc-set values count v i);
+        place = h .place ∙ ap (λ (m : ℕ). placeAfter m text at) k ∙ place-next (most - (count + 1)) text at next (n .here) (n .place);
+      }
 
-  pub keys-more : (v : ℕ) (all left more : Numbers) → count < 256 → all ≡ behind (take count values) left → left ≡ oneMore (reads v) more
-      → all ≡ behind (take (count + 1) (set values count v)) more
-  keys-more v all left more h a l =
-      let i : count < length values = omega arith in
-      a ∙ ap (behind (take count values)) l ∙ behind-one (take count values) v more
-      ∙ rw (add-one count, take-suc-set values count v i)
+  pub hand-unread : at ≤ length text → numberAt text at ≡ NoNumber → (count ≡ most → ⊥) → noneFrom from ≡ numbersAt text from most
+  unfolding numbersAt numbersOf behind
+  hand-unread l e other =
+      let lt : count < most = differ count most (h .few) other in
+      let k : most - count ≡ suc (most - (count + 1)) = omega arith in
+      rw (h .all, k, numbers-unread (most - (count + 1)) text at l e)
 
-  pub keys-done : (all : Numbers) → count ≤ 256 → all ≡ behind (take count values) (numbers []) → _≡_ {A = Keys} (record { read = true; values = values; count = count }) (keysOf all)
-  unfolding behind keysOf padded
-  keys-done all h a =
-      let n : length (take count values) ≡ count = length-take-le count values (omega arith) in
-      rw (a, append-nil (take count values), n, ← zeros, take-append-drop count values)
+  hand-done : numbersIn (take (most - count) (fieldsFrom text at)) ≡ numbers [] → placeAfter (most - count) text at ≡ at
+      → _≡_ {A = ReadNumbers} (record { read = true; values = values; count = count; next = at }) (numbersAt text from most)
+  unfolding numbersAt numbersOf behind padded
+  hand-done e p =
+      let n : length (take count values) ≡ count = length-take-le count values (omega (arith, h .full, h .room)) in
+      rw (h .all, e, append-nil (take count values), n, ← h .zeros, take-append-drop count values, h .place, p)
 
-pub keys-none : (all left : Numbers) (vs : List ℕ) → all ≡ behind vs left → left ≡ noNumbers → noKeys ≡ keysOf all
-unfolding behind keysOf
-keys-none all left vs a l = rw (a, l)
+  pub hand-full : count ≡ most → _≡_ {A = ReadNumbers} (record { read = true; values = values; count = count; next = at }) (numbersAt text from most)
+  unfolding numbersIn placeAfter
+  hand-full e = let z : most - count ≡ 0 = omega arith in hand-done (rw z) (rw z)
+
+  pub hand-end : length text < at → _≡_ {A = ReadNumbers} (record { read = true; values = values; count = count; next = at }) (numbersAt text from most)
+  hand-end l = hand-done (numbers-end (most - count) text at l) (place-end (most - count) text at l)

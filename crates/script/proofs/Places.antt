@@ -103,7 +103,7 @@ fields-drop text at w =
     let e : at + suc w ≡ at + w + 1 = omega arith in
     rw (drop-drop (suc w) at text, e, length-drop at text, same-leb (suc w) (length text - at) (at + w + 1) (length text) (λ h. omega arith) (λ h. omega arith))
 
-fields-here : (text : Text) (at : ℕ) → at ≤ length text → fieldsFrom text at ≡ partsAt space (drop at text)
+pub fields-here : (text : Text) (at : ℕ) → at ≤ length text → fieldsFrom text at ≡ partsAt space (drop at text)
 unfolding fieldsFrom
 fields-here text at h = rw (le-leb at (length text) h)
 

@@ -1,28 +1,30 @@
 -- The laws of a whole line: what stands after each letter, and the letter. Assumes nothing.
 use Prim.Native.Nat.{ℕ, zero, suc, _+_, _-_, _≤_, _<_}
 use native.Mathlib.Omega.{arith}
+use native.Mathlib.Decide.{decLe}
 use mathlib.Core.Path.{_≡_, refl, ap, sym, _∙_}
 use mathlib.Core.Bool.{Bool, true, false, cond}
-use mathlib.Core.List.{List, [], _∷_, _++_}
-use lib.ListN.{length, getD, take, drop, replicate}
-use lib.Seq.{slice, length-slice}
+use mathlib.Core.List.{List, [], _∷_, _++_, append-assoc}
+use lib.ListN.{length, getD, set, take, drop, replicate, length-drop, length-append}
+use lib.Seq.{take-all, getD-drop}
 use lib.Dec.{eqb}
 use borrow.Author.Tests.{le-leb, lt-leb, eq-eqb, ne-eqb}
+use Rattle.tables.proofs.Lists.{upto, upto-more}
 use Rattle.rules.specs.declared.Position.{Position}
 use Rattle.rules.specs.declared.Edit.{Edit}
-use Rattle.rules.specs.declared.Edit.the-variants.{VertexInsert, FaceInsert, ArcExtrude}
-use Rattle.rules.specs.Script.{Text, unread, reads, Numbers, noNumbers, numbers, Point, noPoint, point, unreadable, says, space, partsAt, oneMore, numbersIn, pointIn, numbersMake, numbered, pointMakes, pointed, keysMake, shift, lineOf, lineFrom, lineIn}
-use Rattle.script.specs.declared.Letter.the-variants.{Is, NoLetter}
+use Rattle.rules.specs.declared.Edit.the-variants.{FaceInsert}
+use Rattle.rules.specs.Script.{Text, Numbers, noNumbers, numbers, Point, noPoint, point, unreadable, says, space, withHead, partsAt, numbersIn, pointIn, numbersMake, numbered, pointMakes, pointed, keysMake, lineOf, lineFrom, lineIn}
 use Rattle.script.specs.declared.Spot.the-variants.{At, Nowhere}
-use Rattle.script.specs.declared.Keys.{Keys}
+use Rattle.script.specs.declared.Numbers.{Numbers as ReadNumbers}
+use Rattle.script.specs.declared.Contents.{Contents}
 use Rattle.script.specs.declared.Exact.the-variants.{Four, Otherwise}
 use Rattle.script.specs.declared.Aim.the-variants.{To, Aimless}
 use Rattle.script.specs.declared.Said.the-variants.{Says}
 use Rattle.script.specs.declared.Parsed.{Parsed}
-use Rattle.script.specs.Fields.{endOf, fieldAt, fieldsFrom, letterOf, letterAt, spotOf, padded, keysOf}
-use Rattle.script.specs.Lines.{parsedOf, exactlyOf, aimFrom, aimOf}
-use Rattle.script.proofs.Places.{end-within, fields-first}
-use Rattle.script.proofs.Left.{firstNumber, rest, first-reads}
+use Rattle.script.specs.Fields.{endOf, fieldAt, fieldsFrom, placeAfter, letterOf, letterAt, spotOf, padded, numbersOf, numbersAt}
+use Rattle.script.specs.Lines.{mostNumbers, contentsOf, Holds, parsedOf, exactlyOf, aimOf, Tells}
+use Rattle.script.proofs.Places.{fields-here, fields-first, fields-none}
+use Rattle.script.proofs.Left.{place-others}
 
 -- ---- a point
 
@@ -36,95 +38,91 @@ unfolding spotOf
 spot-nowhere noPoint e = refl
 spot-nowhere (point o) e = let z : _≡_ {A = ℕ} 0 1 = cc in let b : ⊥ = omega arith in absurd b
 
-pub vertex-says : (fs : List Text) (p : Position) → At p ≡ spotOf (pointIn fs) → lineOf 118 fs ≡ says (VertexInsert p) []
-unfolding lineOf pointed pointMakes numbersIn
-vertex-says fs p e = rw (spot-value (pointIn fs) p e)
+-- ---- numbers that were read, or not
 
-pub vertex-not : (fs : List Text) → Nowhere ≡ spotOf (pointIn fs) → lineOf 118 fs ≡ unreadable
-unfolding lineOf pointed pointMakes numbersIn
-vertex-not fs e = rw (spot-nowhere (pointIn fs) e)
+zeros-at : (m i : ℕ) → _≡_ {A = ℕ} (getD (replicate m 0) i 0) 0
+zeros-at zero i = refl
+zeros-at (suc m) zero = refl
+zeros-at (suc m) (suc i) = zeros-at m i
 
--- ---- a number and a point
+behind-zeros : (l : List ℕ) (m i : ℕ) → getD (l ++ replicate m 0) i 0 ≡ getD l i 0
+behind-zeros [] m i = zeros-at m i
+behind-zeros (x ∷ l) m zero = refl
+behind-zeros (x ∷ l) m (suc i) = behind-zeros l m i
 
-pub aim-first : (fs : List Text) (v : ℕ) (p : Position) → firstNumber fs ≡ reads v → At p ≡ spotOf (pointIn (rest fs)) → To v p ≡ aimOf fs
-unfolding aimOf aimFrom numbersIn oneMore
-aim-first [] v p e s = let z : _≡_ {A = ℕ} 0 1 = cc in let b : ⊥ = omega arith in absurd b
-aim-first (f ∷ fs) v p e s = rw (e, spot-value (pointIn fs) p s)
+record ReadAs (k : ReadNumbers) (ns : Numbers) : Type 0 where
+  list : List ℕ
+  is : ns ≡ numbers list
+  values : k .values ≡ padded list
+  count : k .count ≡ length list
 
-pub aim-nowhere : (fs : List Text) (v : ℕ) → firstNumber fs ≡ reads v → Nowhere ≡ spotOf (pointIn (rest fs)) → Aimless ≡ aimOf fs
-unfolding aimOf aimFrom numbersIn oneMore
-aim-nowhere [] v e s = let z : _≡_ {A = ℕ} 0 1 = cc in let b : ⊥ = omega arith in absurd b
-aim-nowhere (f ∷ fs) v e s = rw (e, spot-nowhere (pointIn fs) s)
+module _ (k : ReadNumbers) (from next : ℕ) where
+  was-read : (ns : Numbers) → k ≡ numbersOf ns from next → k .read ≡ true → ReadAs k ns
+  unfolding numbersOf
+  was-read noNumbers h r =
+      let y : _≡_ {A = Bool} false true = sym (ap (λ (x : ReadNumbers). x .read) h) ∙ r in
+      let z : _≡_ {A = ℕ} 0 1 = cc in
+      let b : ⊥ = omega arith in
+      absurd b
+  was-read (numbers l) h r = record { list = l; is = refl; values = ap (λ (x : ReadNumbers). x .values) h; count = ap (λ (x : ReadNumbers). x .count) h }
 
-pub aim-none : (fs : List Text) → firstNumber fs ≡ unread → Aimless ≡ aimOf fs
-unfolding aimOf aimFrom numbersIn oneMore pointIn
-aim-none [] e = refl
-aim-none (f ∷ fs) e = rw e
+  was-unread : (ns : Numbers) → k ≡ numbersOf ns from next → k .read ≡ false → ns ≡ noNumbers
+  unfolding numbersOf
+  was-unread noNumbers h r = refl
+  was-unread (numbers l) h r =
+      let y : _≡_ {A = Bool} true false = sym (ap (λ (x : ReadNumbers). x .read) h) ∙ r in
+      let z : _≡_ {A = ℕ} 0 1 = cc in
+      let b : ⊥ = omega arith in
+      absurd b
 
-module _ (e : ℕ → Position → Edit) where
-  aim-makes : (ns : Numbers) (q : Point) (f : ℕ) (p : Position) → To f p ≡ aimFrom ns q → pointMakes (λ l o. e (getD l 0 0) o) ns q ≡ says (e f p) []
-  unfolding aimFrom pointMakes
-  aim-makes noNumbers q f p h = let z : _≡_ {A = ℕ} 0 1 = cc in let b : ⊥ = omega arith in absurd b
-  aim-makes (numbers ns) noPoint f p h = let z : _≡_ {A = ℕ} 0 1 = cc in let b : ⊥ = omega arith in absurd b
-  aim-makes (numbers ns) (point o) f p h =
-      let ef : f ≡ getD ns 0 0 = cc in
+number-in : (k : ReadNumbers) (ns : Numbers) (w : ReadAs k ns) (i : ℕ) → getD (k .values) i 0 ≡ getD (w .list) i 0
+unfolding padded
+number-in k ns w i = ap (λ (l : List ℕ). getD l i 0) (w .values) ∙ behind-zeros (w .list) (256 - length (w .list)) i
+
+-- ---- numbers and a point
+
+pub aim-nowhere : (ns : Numbers) (q : Point) → Nowhere ≡ spotOf q → Aimless ≡ aimOf ns q
+unfolding aimOf
+aim-nowhere noNumbers q s = refl
+aim-nowhere (numbers l) q s = rw (spot-nowhere q s)
+
+module _ (k : ReadNumbers) (from next : ℕ) (q : Point) (ns : Numbers) (h : k ≡ numbersOf ns from next) where
+  pub aim-unread : k .read ≡ false → Aimless ≡ aimOf ns q
+  unfolding aimOf
+  aim-unread r = rw (was-unread k from next ns h r)
+
+  pub aim-at : (p : Position) → k .read ≡ true → At p ≡ spotOf q → To (getD (k .values) 0 0) (getD (k .values) 1 0) p ≡ aimOf ns q
+  unfolding aimOf
+  aim-at p r s =
+      let w = was-read k from next ns h r in
+      let e : To (getD (k .values) 0 0) (getD (k .values) 1 0) p ≡ aimOf (numbers (w .list)) q = rw (number-in k ns w 0, number-in k ns w 1, spot-value q p s) in
+      e ∙ sym (ap (λ (m : Numbers). aimOf m q) (w .is))
+
+module _ (n : ℕ) (e : ℕ → ℕ → Position → Edit) where
+  aim-makes : (ns : Numbers) (q : Point) (a b : ℕ) (p : Position) → To a b p ≡ aimOf ns q → pointMakes (λ l o. e (getD l 0 0) (getD l 1 0) o) ns q ≡ says (e a b p) []
+  unfolding aimOf pointMakes
+  aim-makes noNumbers q a b p h = let z : _≡_ {A = ℕ} 0 1 = cc in let x : ⊥ = omega arith in absurd x
+  aim-makes (numbers l) noPoint a b p h = let z : _≡_ {A = ℕ} 0 1 = cc in let x : ⊥ = omega arith in absurd x
+  aim-makes (numbers l) (point o) a b p h =
+      let ea : a ≡ getD l 0 0 = cc in
+      let eb : b ≡ getD l 1 0 = cc in
       let ep : p ≡ o = cc in
-      rw (ef, ep)
+      rw (ea, eb, ep)
 
-  pub aim-says : (fs : List Text) (f : ℕ) (p : Position) → To f p ≡ aimOf fs → pointed 1 (λ l o. e (getD l 0 0) o) fs ≡ says (e f p) []
-  unfolding pointed aimOf
-  aim-says fs f p h = aim-makes (numbersIn (take 1 fs)) (pointIn (drop 1 fs)) f p h
+  pub aim-says : (fs : List Text) (a b : ℕ) (p : Position) → To a b p ≡ aimOf (numbersIn (take n fs)) (pointIn (drop n fs))
+      → pointed n (λ l o. e (getD l 0 0) (getD l 1 0) o) fs ≡ says (e a b p) []
+  unfolding pointed
+  aim-says fs a b p h = aim-makes (numbersIn (take n fs)) (pointIn (drop n fs)) a b p h
 
-aimless-makes : (e : List ℕ → Position → Edit) (ns : Numbers) (q : Point) → Aimless ≡ aimFrom ns q → pointMakes e ns q ≡ unreadable
-unfolding aimFrom pointMakes
+aimless-makes : (e : List ℕ → Position → Edit) (ns : Numbers) (q : Point) → Aimless ≡ aimOf ns q → pointMakes e ns q ≡ unreadable
+unfolding aimOf pointMakes
 aimless-makes e noNumbers q h = refl
-aimless-makes e (numbers ns) noPoint h = refl
-aimless-makes e (numbers ns) (point o) h = let z : _≡_ {A = ℕ} 0 1 = cc in let b : ⊥ = omega arith in absurd b
+aimless-makes e (numbers l) noPoint h = refl
+aimless-makes e (numbers l) (point o) h = let z : _≡_ {A = ℕ} 0 1 = cc in let b : ⊥ = omega arith in absurd b
 
-pub aim-not : (e : List ℕ → Position → Edit) (fs : List Text) → Aimless ≡ aimOf fs → pointed 1 e fs ≡ unreadable
-unfolding pointed aimOf
-aim-not e fs h = aimless-makes e (numbersIn (take 1 fs)) (pointIn (drop 1 fs)) h
-
--- ---- two numbers and a point
-
-arc-first : (e : List ℕ → Position → Edit) (fs : List Text) (s : ℕ) → firstNumber fs ≡ reads s
-    → pointed 2 e fs ≡ pointMakes e (oneMore (reads s) (numbersIn (take 1 (rest fs)))) (pointIn (drop 1 (rest fs)))
-unfolding pointed numbersIn
-arc-first e [] s h = let z : _≡_ {A = ℕ} 0 1 = cc in let b : ⊥ = omega arith in absurd b
-arc-first e (f ∷ fs) s h = rw h
-
-arc-makes : (ns : Numbers) (q : Point) (s d : ℕ) (p : Position) → To d p ≡ aimFrom ns q
-    → pointMakes (λ l o. ArcExtrude (getD l 0 0) (getD l 1 0) (shift o)) (oneMore (reads s) ns) q ≡ says (ArcExtrude s d (shift p)) []
-unfolding aimFrom pointMakes oneMore
-arc-makes noNumbers q s d p h = let z : _≡_ {A = ℕ} 0 1 = cc in let b : ⊥ = omega arith in absurd b
-arc-makes (numbers ns) noPoint s d p h = let z : _≡_ {A = ℕ} 0 1 = cc in let b : ⊥ = omega arith in absurd b
-arc-makes (numbers ns) (point o) s d p h =
-    let ed : d ≡ getD ns 0 0 = cc in
-    let ep : p ≡ o = cc in
-    rw (ed, ep)
-
-arc-makes-not : (e : List ℕ → Position → Edit) (ns : Numbers) (q : Point) (s : ℕ) → Aimless ≡ aimFrom ns q → pointMakes e (oneMore (reads s) ns) q ≡ unreadable
-unfolding aimFrom pointMakes oneMore
-arc-makes-not e noNumbers q s h = refl
-arc-makes-not e (numbers ns) noPoint s h = refl
-arc-makes-not e (numbers ns) (point o) s h = let z : _≡_ {A = ℕ} 0 1 = cc in let b : ⊥ = omega arith in absurd b
-
-pub arc-says : (fs : List Text) (s d : ℕ) (p : Position) → firstNumber fs ≡ reads s → To d p ≡ aimOf (rest fs) → lineOf 97 fs ≡ says (ArcExtrude s d (shift p)) []
-unfolding lineOf aimOf
-arc-says fs s d p e h =
-    arc-first (λ l o. ArcExtrude (getD l 0 0) (getD l 1 0) (shift o)) fs s e
-    ∙ arc-makes (numbersIn (take 1 (rest fs))) (pointIn (drop 1 (rest fs))) s d p h
-
-pub arc-not : (fs : List Text) (s : ℕ) → firstNumber fs ≡ reads s → Aimless ≡ aimOf (rest fs) → lineOf 97 fs ≡ unreadable
-unfolding lineOf aimOf
-arc-not fs s e h =
-    arc-first (λ l o. ArcExtrude (getD l 0 0) (getD l 1 0) (shift o)) fs s e
-    ∙ arc-makes-not (λ l o. ArcExtrude (getD l 0 0) (getD l 1 0) (shift o)) (numbersIn (take 1 (rest fs))) (pointIn (drop 1 (rest fs))) s h
-
-pub arc-none : (fs : List Text) → firstNumber fs ≡ unread → lineOf 97 fs ≡ unreadable
-unfolding lineOf pointed pointMakes numbersIn oneMore pointIn
-arc-none [] e = refl
-arc-none (f ∷ fs) e = rw e
+pub aim-not : (n : ℕ) (e : List ℕ → Position → Edit) (fs : List Text) → Aimless ≡ aimOf (numbersIn (take n fs)) (pointIn (drop n fs)) → pointed n e fs ≡ unreadable
+unfolding pointed
+aim-not n e fs h = aimless-makes e (numbersIn (take n fs)) (pointIn (drop n fs)) h
 
 -- ---- exactly n numbers
 
@@ -163,79 +161,82 @@ pub four-not : (n : ℕ) (e : List ℕ → Edit) (fs : List Text) → Otherwise 
 unfolding numbered
 four-not n e fs h = four-makes-not n e (numbersIn fs) h
 
-zeros-at : (m i : ℕ) → _≡_ {A = ℕ} (getD (replicate m 0) i 0) 0
-zeros-at zero i = refl
-zeros-at (suc m) zero = refl
-zeros-at (suc m) (suc i) = zeros-at m i
-
-behind-zeros : (l : List ℕ) (m i : ℕ) → getD (l ++ replicate m 0) i 0 ≡ getD l i 0
-behind-zeros [] m i = zeros-at m i
-behind-zeros (x ∷ l) m zero = refl
-behind-zeros (x ∷ l) m (suc i) = behind-zeros l m i
-
 -- of the numbers that were read
-module _ (n : ℕ) (k : Keys) where
-  pub exactly-unread : (ns : Numbers) → k ≡ keysOf ns → k .read ≡ false → Otherwise ≡ exactlyOf n ns
-  unfolding exactlyOf keysOf
-  exactly-unread noNumbers h r = refl
-  exactly-unread (numbers l) h r =
-      let y : _≡_ {A = Bool} true false = sym (ap (λ (x : Keys). x .read) h) ∙ r in
-      let z : _≡_ {A = ℕ} 0 1 = cc in
-      let x : ⊥ = omega arith in
-      absurd x
+module _ (n : ℕ) (k : ReadNumbers) (from next : ℕ) (ns : Numbers) (h : k ≡ numbersOf ns from next) where
+  pub exactly-unread : k .read ≡ false → Otherwise ≡ exactlyOf n ns
+  unfolding exactlyOf
+  exactly-unread r = rw (was-unread k from next ns h r)
 
-  pub exactly-other : (ns : Numbers) → k ≡ keysOf ns → (k .count ≡ n → ⊥) → Otherwise ≡ exactlyOf n ns
-  unfolding exactlyOf keysOf
-  exactly-other noNumbers h r = refl
-  exactly-other (numbers l) h r = rw (ne-eqb (length l) n (λ q. r (ap (λ (x : Keys). x .count) h ∙ q)))
+  pub exactly-other : k .read ≡ true → (k .count ≡ n → ⊥) → Otherwise ≡ exactlyOf n ns
+  unfolding exactlyOf
+  exactly-other r c = let w = was-read k from next ns h r in rw (w .is, ne-eqb (length (w .list)) n (λ q. c (w .count ∙ q)))
 
-  pub exactly-four : (ns : Numbers) → k ≡ keysOf ns → k .read ≡ true → k .count ≡ n
-      → Four (getD (k .values) 0 0) (getD (k .values) 1 0) (getD (k .values) 2 0) (getD (k .values) 3 0) ≡ exactlyOf n ns
-  unfolding exactlyOf keysOf padded
-  exactly-four noNumbers h r c =
-      let y : _≡_ {A = Bool} false true = sym (ap (λ (x : Keys). x .read) h) ∙ r in
-      let z : _≡_ {A = ℕ} 0 1 = cc in
-      let x : ⊥ = omega arith in
-      absurd x
-  exactly-four (numbers l) h r c =
-      let m = 256 - length l in
-      rw (ap (λ (x : Keys). x .values) h, behind-zeros l m 0, behind-zeros l m 1, behind-zeros l m 2, behind-zeros l m 3, eq-eqb (length l) n (sym (ap (λ (x : Keys). x .count) h) ∙ c))
+  pub exactly-four : k .read ≡ true → k .count ≡ n → Four (getD (k .values) 0 0) (getD (k .values) 1 0) (getD (k .values) 2 0) (getD (k .values) 3 0) ≡ exactlyOf n ns
+  unfolding exactlyOf
+  exactly-four r c =
+      let w = was-read k from next ns h r in
+      let e : Four (getD (k .values) 0 0) (getD (k .values) 1 0) (getD (k .values) 2 0) (getD (k .values) 3 0) ≡ exactlyOf n (numbers (w .list)) =
+      rw (number-in k ns w 0, number-in k ns w 1, number-in k ns w 2, number-in k ns w 3, eq-eqb (length (w .list)) n (sym (w .count) ∙ c)) in
+      e ∙ sym (ap (exactlyOf n) (w .is))
 
 -- ---- f mark keys
 
-pub insert-none : (fs : List Text) → firstNumber fs ≡ unread → lineOf 102 fs ≡ unreadable
-unfolding lineOf keysMake numbersIn oneMore
-insert-none [] e = refl
-insert-none (f ∷ fs) e = rw e
+-- the first i of the numbers after the first, in 256 places, and 0 in the others
+unfoldable pub afterFirst : List ℕ → ℕ → List ℕ
+afterFirst values i = upto (drop 1 values) i (replicate 256 0)
 
-module _ (mark : ℕ) (k : Keys) where
-  insert-makes-not : (ns : Numbers) → k ≡ keysOf ns → k .read ≡ false → keysMake (oneMore (reads mark) ns) ≡ unreadable
-  unfolding keysMake oneMore keysOf
-  insert-makes-not noNumbers h r = refl
-  insert-makes-not (numbers l) h r =
-      let y : _≡_ {A = Bool} true false = sym (ap (λ (x : Keys). x .read) h) ∙ r in
-      let z : _≡_ {A = ℕ} 0 1 = cc in
-      let x : ⊥ = omega arith in
-      absurd x
+module _ (values : List ℕ) where
+  pub after-none : replicate 256 0 ≡ afterFirst values 0
+  unfolding afterFirst
+  after-none = refl
 
-  insert-makes : (ns : Numbers) → k ≡ keysOf ns → k .read ≡ true
-      → _≡_ {A = Parsed} (record { said = Says (FaceInsert mark); keys = k .values; count = k .count }) (parsedOf (keysMake (oneMore (reads mark) ns)))
-  unfolding parsedOf keysMake oneMore keysOf
-  insert-makes noNumbers h r =
-      let y : _≡_ {A = Bool} false true = sym (ap (λ (x : Keys). x .read) h) ∙ r in
-      let z : _≡_ {A = ℕ} 0 1 = cc in
-      let x : ⊥ = omega arith in
-      absurd x
-  insert-makes (numbers l) h r = rw (ap (λ (x : Keys). x .values) h, ap (λ (x : Keys). x .count) h)
+  pub after-more : (i : ℕ) → length values ≡ 256 → i + 1 < 256 → set (afterFirst values i) i (getD values (i + 1) 0) ≡ afterFirst values (i + 1)
+  unfolding afterFirst
+  after-more i full h =
+      let k : i + 1 ≡ 1 + i = omega arith in
+      let e : getD values (i + 1) 0 ≡ getD (drop 1 values) i 0 = rw k (sym (getD-drop 1 values i 0)) in
+      rw e (upto-more i (drop 1 values) (replicate 256 0) 0 (omega arith) (omega (arith, full, length-drop 1 values)))
 
-  pub insert-not : (fs : List Text) → firstNumber fs ≡ reads mark → k ≡ keysOf (numbersIn (rest fs)) → k .read ≡ false → lineOf 102 fs ≡ unreadable
-  unfolding lineOf
-  insert-not fs e h r = ap keysMake (first-reads fs mark e) ∙ insert-makes-not (numbersIn (rest fs)) h r
+  pub after-all : (n : ℕ) (ns : List ℕ) → length values ≡ 256 → values ≡ padded (n ∷ ns) → afterFirst values 255 ≡ padded ns
+  unfolding afterFirst padded
+  after-all n ns full e =
+      let few : length ns ≤ 255 = omega (arith, full, ap length e, length-append ns (replicate (256 - suc (length ns)) 0)) in
+      let m : 256 - length ns ≡ suc (256 - suc (length ns)) = omega arith in
+      let l : length (drop 1 values) ≤ 255 = omega (arith, full, length-drop 1 values) in
+      let t : upto (drop 1 values) 255 (replicate 256 0) ≡ drop 1 values ++ (0 ∷ []) = ap (λ (x : List ℕ). x ++ (0 ∷ [])) (take-all 255 (drop 1 values) l) in
+      let d : drop 1 values ≡ ns ++ replicate (256 - suc (length ns)) 0 = ap (drop 1) e in
+      t ∙ ap (λ (x : List ℕ). x ++ (0 ∷ [])) d ∙ append-assoc ns (replicate (256 - suc (length ns)) 0) (0 ∷ [])
+      ∙ rw m (ap (λ (x : List ℕ). ns ++ x) (one-more (256 - suc (length ns))))
+    where
+      one-more : (m : ℕ) → _≡_ {A = List ℕ} (replicate m 0 ++ (0 ∷ [])) (replicate (suc m) 0)
+      one-more zero = refl
+      one-more (suc m) = ap (λ (x : List ℕ). 0 ∷ x) (one-more m)
 
-  pub insert-says : (fs : List Text) → firstNumber fs ≡ reads mark → k ≡ keysOf (numbersIn (rest fs)) → k .read ≡ true
-      → _≡_ {A = Parsed} (record { said = Says (FaceInsert mark); keys = k .values; count = k .count }) (parsedOf (lineOf 102 fs))
-  unfolding lineOf
-  insert-says fs e h r = insert-makes (numbersIn (rest fs)) h r ∙ sym (ap (λ (x : Numbers). parsedOf (keysMake x)) (first-reads fs mark e))
+insert-empty : (l : List ℕ) → length l ≡ 0 → keysMake (numbers l) ≡ unreadable
+unfolding keysMake
+insert-empty [] e = refl
+insert-empty (m ∷ l) e = let b : ⊥ = omega arith in absurd b
+
+insert-list : (mark count : ℕ) (keys l : List ℕ) → mark ≡ getD l 0 0 → count ≡ length l → (count ≡ 0 → ⊥) → ((m : ℕ) (ms : List ℕ) → l ≡ m ∷ ms → keys ≡ padded ms)
+    → _≡_ {A = Parsed} (record { said = Says (FaceInsert mark); keys = keys; count = count - 1 }) (parsedOf (keysMake (numbers l)))
+unfolding parsedOf keysMake
+insert-list mark count keys [] f n c e = absurd (c n)
+insert-list mark count keys (m ∷ ms) f n c e = let d : count - 1 ≡ length ms = omega arith in rw (d, e m ms refl, f)
+
+module _ (k : ReadNumbers) (from next : ℕ) (ns : Numbers) (h : k ≡ numbersOf ns from next) where
+  pub insert-unread : k .read ≡ false → keysMake ns ≡ unreadable
+  unfolding keysMake
+  insert-unread r = rw (was-unread k from next ns h r)
+
+  pub insert-none : k .read ≡ true → k .count ≡ 0 → keysMake ns ≡ unreadable
+  insert-none r c = let w = was-read k from next ns h r in ap keysMake (w .is) ∙ insert-empty (w .list) (sym (w .count) ∙ c)
+
+  pub insert-says : (keys : List ℕ) → k .read ≡ true → (k .count ≡ 0 → ⊥) → ((m : ℕ) (ms : List ℕ) → k .values ≡ padded (m ∷ ms) → keys ≡ padded ms)
+      → _≡_ {A = Parsed} (record { said = Says (FaceInsert (getD (k .values) 0 0)); keys = keys; count = k .count - 1 }) (parsedOf (keysMake ns))
+  insert-says keys r c e =
+      let w = was-read k from next ns h r in
+      insert-list (getD (k .values) 0 0) (k .count) keys (w .list) (number-in k ns w 0) (w .count) c (λ m ms q. e m ms (w .values ∙ ap padded q))
+      ∙ sym (ap (λ (x : Numbers). parsedOf (keysMake x)) (w .is))
 
 -- ---- the line
 
@@ -251,38 +252,73 @@ pub line-short : (text : Text) → length text ≤ 512 → lineIn text ≡ lineF
 unfolding lineIn
 line-short text h = rw (le-leb (length text) 512 h) (ap lineFrom (all-fields text ∙ fields-first text 0 (omega arith)))
 
-letter-line : (f : Text) (fs : List Text) (next letter n : ℕ) → Is letter n ≡ letterOf f next → (lineFrom (f ∷ fs) ≡ lineOf letter fs) × (n ≡ next)
-unfolding letterOf lineFrom
-letter-line [] fs next letter n e = let z : _≡_ {A = ℕ} 0 1 = cc in let b : ⊥ = omega arith in absurd b
-letter-line (c ∷ []) fs next letter n e = let l : letter ≡ c = cc in (rw l, cc)
-letter-line (c ∷ d ∷ f) fs next letter n e = let z : _≡_ {A = ℕ} 0 1 = cc in let b : ⊥ = omega arith in absurd b
-
-letter-none : (f : Text) (fs : List Text) (next : ℕ) → NoLetter ≡ letterOf f next → lineFrom (f ∷ fs) ≡ unreadable
-unfolding letterOf lineFrom
-letter-none [] fs next e = refl
-letter-none (c ∷ []) fs next e = let z : _≡_ {A = ℕ} 0 1 = cc in let b : ⊥ = omega arith in absurd b
-letter-none (c ∷ d ∷ f) fs next e = refl
-
-first-letter : (text : Text) → letterAt text 0 ≡ letterOf (fieldAt text 0) (endOf text 0 + 1)
+-- a line of at most 512 bytes, by the letter that was read: 0 is the letter of no line
+line-letter : (text : Text) → length text ≤ 512 → lineIn text ≡ lineOf (letterAt text 0 .byte) (fieldsFrom text (letterAt text 0 .next))
 unfolding letterAt
-first-letter text = rw (le-leb 0 (length text) (omega arith))
+line-letter text h = line-short text h ∙ rw (le-leb 0 (length text) (omega arith)) (go (fieldAt text 0) (fieldsFrom text (endOf text 0 + 1)))
+  where
+    go : (f : Text) (fs : List Text) → lineFrom (f ∷ fs) ≡ lineOf (letterOf f) fs
+    go [] fs = unfold letterOf lineFrom lineOf in refl
+    go (c ∷ []) fs = unfold letterOf lineFrom in refl
+    go (c ∷ d ∷ f) fs = unfold letterOf lineFrom lineOf in refl
 
-pub line-other : (text : Text) → length text ≤ 512 → NoLetter ≡ letterAt text 0 → lineIn text ≡ unreadable
-line-other text h e = line-short text h ∙ letter-none (fieldAt text 0) (fieldsFrom text (endOf text 0 + 1)) (endOf text 0 + 1) (e ∙ first-letter text)
+-- ---- what was read of it
 
-letter-length : (f : Text) (next letter n : ℕ) → Is letter n ≡ letterOf f next → length f ≡ 1
-unfolding letterOf
-letter-length [] next letter n e = let z : _≡_ {A = ℕ} 0 1 = cc in let b : ⊥ = omega arith in absurd b
-letter-length (c ∷ []) next letter n e = refl
-letter-length (c ∷ d ∷ f) next letter n e = let z : _≡_ {A = ℕ} 0 1 = cc in let b : ⊥ = omega arith in absurd b
+parts-few : (cs : Text) → length (partsAt space cs) ≤ suc (length cs)
+unfolding partsAt
+parts-few [] = omega arith
+parts-few (c ∷ cs) = go (eqb c space) (partsAt space cs) (parts-few cs)
+  where
+    go : (b : Bool) (l : List Text) → length l ≤ suc (length cs) → length (cond b ([] ∷ l) (withHead c l)) ≤ suc (suc (length cs))
+    go true l h = omega arith
+    go false [] h = unfold withHead in omega arith
+    go false (f ∷ l) h = unfold withHead in omega arith
 
-pub line-letter : (text : Text) (letter n : ℕ) → length text ≤ 512 → Is letter n ≡ letterAt text 0 → lineIn text ≡ lineOf letter (fieldsFrom text 2)
-unfolding fieldAt
-line-letter text letter n h e =
-    let i : Is letter n ≡ letterOf (slice 0 (endOf text 0) text) (endOf text 0 + 1) = e ∙ first-letter text in
-    let l : endOf text 0 ≡ 1 = omega (arith, letter-length (slice 0 (endOf text 0) text) (endOf text 0 + 1) letter n i, length-slice 0 (endOf text 0) text (end-within text 0 (omega arith))) in
-    let two : fieldsFrom text (endOf text 0 + 1) ≡ fieldsFrom text 2 = rw l in
-    line-short text h ∙ letter-line (slice 0 (endOf text 0) text) (fieldsFrom text (endOf text 0 + 1)) (endOf text 0 + 1) letter n i .0 ∙ ap (lineOf letter) two
+fields-few : (text : Text) (at : ℕ) → 1 ≤ at → length (fieldsFrom text at) ≤ length text
+fields-few text at h = go (decLe at (length text))
+  where
+    go : Dec (at ≤ length text) → length (fieldsFrom text at) ≤ length text
+    go (yes l) = rw (fields-here text at l) (omega (arith, parts-few (drop at text), length-drop at text))
+    go (no n) = rw (fields-none text at (omega arith)) (omega arith)
+
+letter-far : (text : Text) → 1 ≤ letterAt text 0 .next
+unfolding letterAt
+letter-far text = rw (le-leb 0 (length text) (omega arith)) (omega arith)
+
+module _ (from next : ℕ) where
+  own-next : (ns : Numbers) → numbersOf ns from next ≡ numbersOf ns (numbersOf ns from next .next) (numbersOf ns from next .next)
+  unfolding numbersOf
+  own-next noNumbers = refl
+  own-next (numbers l) = refl
+
+  read-next : (ns : Numbers) → numbersOf ns from next .read ≡ true → numbersOf ns from next .next ≡ next
+  unfolding numbersOf
+  read-next noNumbers h = let z : _≡_ {A = ℕ} 0 1 = cc in let b : ⊥ = omega arith in absurd b
+  read-next (numbers l) h = refl
+
+contents-hold : (text : Text) → length text ≤ 512 → Holds (contentsOf text) (mostNumbers (contentsOf text .letter)) (fieldsFrom text (letterAt text 0 .next))
+unfolding contentsOf numbersAt
+contents-hold text h =
+    let at = letterAt text 0 .next in
+    let n = mostNumbers (letterAt text 0 .byte) in
+    let ns = numbersIn (take n (fieldsFrom text at)) in
+    record {
+      numbers = own-next at (placeAfter n text at) ns;
+      spot = λ r. ap (λ (l : List Text). spotOf (pointIn l)) (ap (fieldsFrom text) (read-next at (placeAfter n text at) ns r) ∙ place-others n text at);
+      few = omega (arith, fields-few text at (letter-far text));
+    }
+
+pub holds-all : (c : Contents) (fs : List Text) → Holds c 512 fs → c .numbers ≡ numbersOf (numbersIn fs) (c .numbers .next) (c .numbers .next)
+holds-all c fs h = h .numbers ∙ ap (λ (l : List Text). numbersOf (numbersIn l) (c .numbers .next) (c .numbers .next)) (take-all 512 fs (h .few))
+
+pub tells-by : (c : Contents) (r : Parsed) (a b : ℕ) → a ≡ b → Tells b c r → Tells a c r
+tells-by c r a b e t = rw e t
+
+pub line-tells : (text : Text) (c : Contents) (r : Parsed) → length text ≤ 512 → c ≡ contentsOf text → Tells (c .letter) c r → r ≡ parsedOf (lineIn text)
+line-tells text c r h e t =
+    let fs = fieldsFrom text (letterAt text 0 .next) in
+    let l : c .letter ≡ letterAt text 0 .byte = ap (λ (x : Contents). x .letter) e ∙ (unfold contentsOf in refl) in
+    t fs (rw e (contents-hold text h)) ∙ ap parsedOf (ap (λ (x : ℕ). lineOf x fs) l ∙ sym (line-letter text h))
 
 pub no-letter : (letter : ℕ) (fs : List Text) → (letter ≡ 118 → ⊥) → (letter ≡ 102 → ⊥) → (letter ≡ 114 → ⊥) → (letter ≡ 115 → ⊥) → (letter ≡ 112 → ⊥)
     → (letter ≡ 98 → ⊥) → (letter ≡ 106 → ⊥) → (letter ≡ 120 → ⊥) → (letter ≡ 97 → ⊥) → lineOf letter fs ≡ unreadable

@@ -3,13 +3,12 @@
 use Prim.Native.Nat.{ℕ, zero, suc, _+_, _-_}
 use mathlib.Core.Bool.{Bool, true, false, cond}
 use mathlib.Core.List.{List, [], _∷_, _++_}
-use lib.ListN.{length, replicate, drop}
+use lib.ListN.{length, replicate, take, drop}
 use lib.Seq.{slice}
 use lib.Dec.{eqb, leb}
 use lib.IntN.{ℤ, pos, negℤ}
-use Rattle.rules.specs.Script.{Text, Reading, unread, reads, Whole, noWhole, whole, Numbers, noNumbers, numbers, Point, noPoint, point, space, partsAt, numberIn, coordinateIn, floatOf}
+use Rattle.rules.specs.Script.{Text, Reading, unread, reads, Whole, noWhole, whole, Numbers, noNumbers, numbers, Point, noPoint, point, space, partsAt, numberIn, coordinateIn, floatOf, numbersIn}
 use Rattle.script.specs.declared.Letter.{Letter}
-use Rattle.script.specs.declared.Letter.the-variants.{Is, NoLetter}
 use Rattle.script.specs.declared.Digits.{Digits}
 use Rattle.script.specs.declared.Digits.the-variants.{Value, Unread}
 use Rattle.script.specs.declared.Field.{Field}
@@ -18,7 +17,7 @@ use Rattle.script.specs.declared.Offset.{Offset}
 use Rattle.script.specs.declared.Offset.the-variants.{Coordinate, NoCoordinate}
 use Rattle.script.specs.declared.Spot.{Spot}
 use Rattle.script.specs.declared.Spot.the-variants.{At, Nowhere}
-use Rattle.script.specs.declared.Keys.{Keys}
+use Rattle.script.specs.declared.Numbers.{Numbers as ReadNumbers}
 
 -- ---- places
 
@@ -38,15 +37,22 @@ fieldAt text at = slice at (endOf text at) text
 unfoldable pub fieldsFrom : Text → ℕ → List Text
 fieldsFrom text at = cond (leb at (length text)) (partsAt space (drop at text)) []
 
+-- the place after so many fields, or after the last one
+unfoldable pub placeAfter : ℕ → Text → ℕ → ℕ
+placeAfter zero text at = at
+placeAfter (suc n) text at = let later = placeAfter n text (endOf text at + 1) in cond (leb at (length text)) later at
+
 -- ---- one field
 
-unfoldable pub letterOf : Text → ℕ → Letter
-letterOf [] next = NoLetter
-letterOf (c ∷ []) next = Is c next
-letterOf (c ∷ d ∷ cs) next = NoLetter
+-- the letter that a field is: 0, with which no line begins, where the field is not one byte
+unfoldable pub letterOf : Text → ℕ
+letterOf [] = 0
+letterOf (c ∷ []) = c
+letterOf (c ∷ d ∷ cs) = 0
 
 unfoldable pub letterAt : Text → ℕ → Letter
-letterAt text at = cond (leb at (length text)) (letterOf (fieldAt text at) (endOf text at + 1)) NoLetter
+letterAt text at =
+    cond (leb at (length text)) (record { byte = letterOf (fieldAt text at); next = endOf text at + 1 }) (record { byte = 0; next = at })
 
 unfoldable pub digitsOf : Reading → Digits
 digitsOf unread = Unread
@@ -80,9 +86,14 @@ spotOf (point p) = At p
 unfoldable pub padded : List ℕ → List ℕ
 padded ns = ns ++ replicate (256 - length ns) 0
 
-abbrev pub noKeys : Keys
-noKeys = record { read = false; values = replicate 256 0; count = 0 }
+abbrev pub noneFrom : ℕ → ReadNumbers
+noneFrom from = record { read = false; values = replicate 256 0; count = 0; next = from }
 
-unfoldable pub keysOf : Numbers → Keys
-keysOf noNumbers = noKeys
-keysOf (numbers ns) = record { read = true; values = padded ns; count = length ns }
+-- numbers that are read from a place up to another
+unfoldable pub numbersOf : Numbers → ℕ → ℕ → ReadNumbers
+numbersOf noNumbers from next = noneFrom from
+numbersOf (numbers ns) from next = record { read = true; values = padded ns; count = length ns; next = next }
+
+-- the numbers from a place on, at most so many
+unfoldable pub numbersAt : Text → ℕ → ℕ → ReadNumbers
+numbersAt text at most = numbersOf (numbersIn (take most (fieldsFrom text at))) at (placeAfter most text at)

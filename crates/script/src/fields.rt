@@ -1,12 +1,13 @@
-// The fields of a line: where the field at a place ends, the number or the coordinate in it, and all the numbers that are left.
+// The fields of a line: where the field at a place ends, the letter, number or coordinate in it, and the numbers or the point that
+// begin there.
 // It carries document 01's "Coordinates are whole numbers within ±1,000,000, other numbers u32; all decimal, one space between
 // fields, a minus sign only before coordinates". A place past the line's end means that no field is left.
 
 use crate::Digits;
 use crate::Field;
 use crate::KEYS;
-use crate::Keys;
 use crate::Letter;
+use crate::Numbers;
 use crate::Offset;
 use crate::Spot;
 use rules::Position;
@@ -16,8 +17,9 @@ ghost use Prim.Native.Nat.{_≤_, _<_};
 ghost use lib.ListN.{length};
 ghost use lib.Seq.{slice};
 ghost use lib.IntN.{pos, negℤ};
-ghost use Rattle.rules.specs.Script.{digitsUpTo, floatOf, pointIn, numbersIn};
-ghost use Rattle.script.specs.Fields.{endOf, letterAt, digitsOf, numberAt, signedOf, coordinateAt, spotOf, keysOf, fieldsFrom};
+ghost use Rattle.rules.specs.Script.{digitsUpTo, floatOf, pointIn};
+ghost use Rattle.script.specs.Fields.{endOf, letterAt, digitsOf, numberAt, signedOf, coordinateAt, spotOf};
+ghost use Rattle.script.specs.Fields.{fieldsFrom, noneFrom, numbersAt};
 
 // Coordinates lie within a million either way, other numbers below 2 to the 32.
 const FARTHEST: u32 = 1000000;
@@ -40,18 +42,22 @@ pub fn field_end(text: &[u8], at: usize) -> usize
     i
 }
 
-// The letter that the field at a place is, if it is one byte.
+// The letter that the field at a place is.
 pub fn letter_at(text: &[u8], at: usize) -> Letter
     ensures { λ r. ⌜ r ≡ letterAt (now (text .entry)) at ⌝ }
 {
     if at > text.len() {
-        return Letter::NoLetter;
+        return Letter { byte: 0, next: at };
     }
     let end = field_end(text, at);
+    let next = end + 1;
     if end != at + 1 {
-        return Letter::NoLetter;
+        return Letter { byte: 0, next };
     }
-    Letter::Is(text[at], end + 1)
+    Letter {
+        byte: text[at],
+        next,
+    }
 }
 
 // The digits from a place up to an end, one or more, as a number that is at most the limit.
@@ -158,36 +164,41 @@ pub fn spot_at(text: &[u8], at: usize) -> Spot
     Spot::At(Position { x, y, z })
 }
 
-// Nothing, where a field is no number.
-fn no_keys() -> Keys
-    ensures { λ r. ⌜ r ≡ Rattle.script.specs.Fields.noKeys ⌝ }
+// None, where a field is no number.
+fn no_numbers(from: usize) -> Numbers
+    ensures { λ r. ⌜ r ≡ noneFrom from ⌝ }
 {
-    Keys {
+    Numbers {
         read: false,
         values: [0; KEYS],
         count: 0,
+        next: from,
     }
 }
 
-// All of them as numbers.
-pub fn numbers_at(text: &[u8], from: usize) -> Keys
+// Numbers, at most so many.
+pub fn numbers_at(text: &[u8], from: usize, most: usize) -> Numbers
     requires { ⌜ length (now text) ≤ 512 ⌝ }
-    ensures { λ r. ⌜ r ≡ keysOf (numbersIn (fieldsFrom (now (text .entry)) from)) ⌝ }
+    ensures { λ r. ⌜ r ≡ numbersAt (now (text .entry)) from most ⌝ }
 {
     let mut values = [0u32; KEYS];
     let mut count: usize = 0;
     let mut at = from;
     while at <= text.len() {
+        if count == most {
+            break;
+        }
         let Field::Number(v, next) = number_at(text, at) else {
-            return no_keys();
+            return no_numbers(from);
         };
         values[count] = v;
         count += 1;
         at = next;
     }
-    Keys {
+    Numbers {
         read: true,
         values,
         count,
+        next: at,
     }
 }

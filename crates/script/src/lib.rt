@@ -22,10 +22,10 @@ pub enum Digits {
     Unread,
 }
 
-// The letter that a field is, with the place of the next field; or none.
-pub enum Letter {
-    Is(u8, usize),
-    NoLetter,
+// The letter that a field is, with the place of the next field: 0, with which no line begins, where the field is not one byte.
+pub struct Letter {
+    pub byte: u8,
+    pub next: usize,
 }
 
 // The number in a field, with the place of the next field; or no number, or no field.
@@ -46,11 +46,20 @@ pub enum Spot {
     Nowhere,
 }
 
-// All fields that are left as numbers: so many of them, and the places from count on are 0. With none where one is no number.
-pub struct Keys {
+// Numbers in fields one after the other, with the place of the next field: so many of them, and the places from count on are 0.
+// Where a field is no number, none are read, and the place is that of the first field.
+pub struct Numbers {
     pub read: bool,
     pub values: [u32; KEYS],
     pub count: usize,
+    pub next: usize,
+}
+
+// What stands on a line: its letter, the numbers after it, and the point after those.
+pub struct Contents {
+    pub letter: u8,
+    pub numbers: Numbers,
+    pub spot: Spot,
 }
 
 // Exactly so many numbers and nothing after them, 0 past the last; or else nothing.
@@ -59,9 +68,9 @@ pub enum Exact {
     Otherwise,
 }
 
-// A number, and then three coordinates and nothing after them; or else nothing.
+// At most two numbers, 0 past the last, and then three coordinates and nothing after them; or else nothing.
 pub enum Aim {
-    To(u32, Position),
+    To(u32, u32, Position),
     Aimless,
 }
 

@@ -1,54 +1,41 @@
-// The line reader: a line and the place reached in it, with thin functions over those of fields.rt, and one that needs no reader.
+// The line reader: a line and the place reached in it. Every kind of line is read with its three functions: the letter, then the
+// numbers, then the point. Each takes the reader apart and leaves the work to a function of fields.rt; what is read tells the place
+// of the next field, to which the reader moves on (contents_of in lines.rt, on the way of every line).
 // It carries document 01's "Its line reader holds the line and the place reached in it".
 
-use crate::Field;
 use crate::Letter;
-use crate::Offset;
+use crate::Numbers;
+use crate::Spot;
 use crate::fields;
 ghost use mathlib.Core.Path.{_≡_};
-ghost use Rattle.script.specs.Fields.{letterAt, numberAt, coordinateAt};
+ghost use Prim.Native.Nat.{_≤_};
+ghost use lib.ListN.{length};
+ghost use Rattle.rules.specs.Script.{pointIn};
+ghost use Rattle.script.specs.Fields.{letterAt, numbersAt, spotOf, fieldsFrom};
 
 pub struct Line<'a> {
     pub text: &'a [u8],
     pub at: usize,
 }
 
-// At the line's begin.
-pub fn line_of<'a>(text: &'a [u8]) -> Line<'a>
-    ensures { λ r. ⌜ (r .text ≡ text .entry) × (r .at ≡ 0) ⌝ }
+// The letter that the field at the place reached is.
+pub fn read_letter<'a>(line: Line<'a>) -> Letter
+    ensures { λ r. ⌜ r ≡ letterAt (now (line .entry .text)) (line .entry .at) ⌝ }
 {
-    Line { text, at: 0 }
+    fields::letter_at(line.text, line.at)
 }
 
-// That line, at another place.
-pub fn moved<'a>(r: Line<'a>, at: usize) -> Line<'a>
-    ensures { λ q. ⌜ (q .text ≡ r .entry .text) × (q .at ≡ at) ⌝ }
+// The numbers from the place reached on, at most so many.
+pub fn read_numbers<'a>(line: Line<'a>, most: usize) -> Numbers
+    requires { ⌜ length (now (line .text)) ≤ 512 ⌝ }
+    ensures { λ r. ⌜ r ≡ numbersAt (now (line .entry .text)) (line .entry .at) most ⌝ }
 {
-    Line { text: r.text, at }
+    fields::numbers_at(line.text, line.at, most)
 }
 
-// The letter, the number and the coordinate in the field at the place, each with the place of the next field.
-pub fn read_letter<'a>(r: Line<'a>) -> Letter
-    ensures { λ s. ⌜ s ≡ letterAt (now (r .entry .text)) (r .entry .at) ⌝ }
+// The point from the place reached to the line's end.
+pub fn read_spot<'a>(line: Line<'a>) -> Spot
+    ensures { λ r. ⌜ r ≡ spotOf (pointIn (fieldsFrom (now (line .entry .text)) (line .entry .at))) ⌝ }
 {
-    fields::letter_at(r.text, r.at)
-}
-
-pub fn read_number<'a>(r: Line<'a>) -> Field
-    ensures { λ s. ⌜ s ≡ numberAt (now (r .entry .text)) (r .entry .at) ⌝ }
-{
-    fields::number_at(r.text, r.at)
-}
-
-pub fn read_coordinate<'a>(r: Line<'a>) -> Offset
-    ensures { λ s. ⌜ s ≡ coordinateAt (now (r .entry .text)) (r .entry .at) ⌝ }
-{
-    fields::coordinate_at(r.text, r.at)
-}
-
-// The letter with which a line begins.
-pub fn first_letter(text: &[u8]) -> Letter
-    ensures { λ r. ⌜ r ≡ letterAt (now (text .entry)) 0 ⌝ }
-{
-    read_letter(line_of(text))
+    fields::spot_at(line.text, line.at)
 }

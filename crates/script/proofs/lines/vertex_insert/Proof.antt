@@ -1,18 +1,25 @@
--- `script::lines::vertex_insert` meets its contract. By whether the fields are a point. Assumes nothing.
+-- `script::lines::vertex_insert` meets its contract. By whether a point stands where it is asked for. Assumes nothing.
 use mathlib.Core.Path.{ap, sym, _∙_}
-use Rattle.script.specs.Fields.{fieldsFrom}
-use Rattle.script.specs.Lines.{parsedOf}
-use Rattle.script.proofs.Says.{vertex-says, vertex-not}
+use Rattle.rules.specs.declared.Edit.the-variants as E
+use Rattle.rules.specs.Script.{lineOf}
+use Rattle.script.specs.Lines.{mostNumbers, parsedOf}
+use Rattle.script.proofs.Says.{aim-says, aim-not}
 use borrow.Author.Needs.{needs}
 use Rattle.script.proofs.lines.vertex_insert.Statement.{statement}
 use Rattle.script.proofs.lines.vertex_insert.Tie as tie
 
 returns : tie.Need-returns
-returns c =
-    c .says .ensures ∙ sym (ap parsedOf (vertex-says (fieldsFrom (c .before .before .before .before .before .before .args .text .now) 2) (c .before .before .p .given .0 .0) (sym (c .before .before .p .given .1) ∙ c .before .before .before .before .spot-at .ensures)))
+unfolding lineOf mostNumbers
+returns c = λ fs h.
+    let g = c .before .before .p .given in
+    let aim = sym (g .1) ∙ c .before .before .before .before .aimed .ensures 0 fs h in
+    c .says .ensures ∙ sym (ap parsedOf (aim-says 0 (λ a b p. E.VertexInsert p) fs (g .0 .0) (g .0 .1 .0) (g .0 .1 .1 .0) aim))
 
 returns-2 : tie.Need-returns-2
-returns-2 c = c .unreadable .ensures ∙ sym (ap parsedOf (vertex-not (fieldsFrom (c .before .before .before .before .before .args .text .now) 2) (sym (c .before .enum-told .given .1) ∙ c .before .before .before .spot-at .ensures)))
+unfolding lineOf mostNumbers
+returns-2 c = λ fs h.
+    let aim = sym (c .before .enum-told .given .1) ∙ c .before .before .before .aimed .ensures 0 fs h in
+    c .unreadable .ensures ∙ sym (ap parsedOf (aim-not 0 (λ l p. E.VertexInsert p) fs aim))
 
 pub vertex-insert-spec : {M : Type 1} → statement M
 vertex-insert-spec =
