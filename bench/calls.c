@@ -159,6 +159,6 @@ int main(void) {
     TIMED("face bridge, 64 corners", ul_face_bridge(UL_LENT(mesh), low, high));
     TIMED("face extrude, 64 corners", ul_face_extrude_shift(UL_LENT(mesh), low, 1, 2, 3));
     TIMED("arity", ul_face_arity(UL_SET(mesh.tables), mesh.counters, face));
-    TIMED("soundness check", ul_check_sound(UL_SET(mesh.tables), mesh.counters));
+    TIMED("check", ul_check(UL_SET(mesh.tables), mesh.counters));
     return 0;
 }

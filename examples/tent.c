@@ -86,6 +86,6 @@ int main(void)
     for (size_t i = 0; i < FACES; i++)
         if (drawn.faces[i].key_plus_1 != 0)
             print_panel(&drawn, &drawn.faces[i]);
-    printf("finished: %s\n", ul_check_finished(drawn.vertices, VERTICES).number == UL_DONE ? "yes" : "no");
+    printf("finished: %s\n", ul_check(UL_SET(tent.tables), tent.counters).number == UL_DONE ? "yes" : "no");
     return 0;
 }

@@ -117,7 +117,8 @@ enum {
     UL_DONE = 0,
     UL_TABLES = 1,                /* a table is unsound or over the limit, or working room is too small */
     UL_ARGUMENT = 2,              /* more than 64 keys; a given number, or a moved coordinate, that is not finite */
-    UL_TOPOLOGY_MALFORMED = 3,    /* fewer than three keys, a key twice; a split of vertices that are one or neighbours */
+    UL_TOPOLOGY_MALFORMED = 3,    /* fewer than three keys, a key twice; a split of vertices that are one or neighbours; by the check, a vertex
+                                     without a leading arc */
     UL_TOPOLOGY_NOT_FOUND = 4,    /* an unknown vertex, face or arc; a split between vertices that are not both on the face */
     UL_TOPOLOGY_CONFLICT = 5,     /* an arc that is needed has a face already, or leads on within the new face */
     UL_ARITY_NON_UNIFORM = 6,     /* a bridge of faces that have not as many vertices as each other */
@@ -193,11 +194,9 @@ ul_reply ul_arc_extrude_scale(UL_LENT_PARAMETERS, uint32_t s, uint32_t d, double
 /* How many vertices a face has. Reply: arity. Refusals: 1, 4. */
 ul_reply ul_face_arity(UL_SEEN_PARAMETERS, uint32_t face);
 
-/* 0 if the tables are sound and within the limits, else 1. Reply: only the number. */
-ul_reply ul_check_sound(UL_SEEN_PARAMETERS);
-
-/* 0 if every vertex has a leading arc, that is, an edge, else 3. It reads the vertices alone, whatever their number, and never answers 1. */
-ul_reply ul_check_finished(const ul_vertex *vertices, size_t vertex_count);
+/* 1 if the tables are not sound or not within the limits; or 3 if some vertex has no leading arc, which its first edge gives it: the mesh is
+ * sound, but not finished; or 0: it is both. In that order. Reply: only the number. Refusals: 1, 3. */
+ul_reply ul_check(UL_SEEN_PARAMETERS);
 
 #ifdef __cplusplus
 }

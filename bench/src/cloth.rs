@@ -11,11 +11,11 @@ pub struct Cloth {
     height: u64,
 }
 
-/// A call: one that plexus has too, or the soundness check, at once or after an edit that is not timed.
+/// A call: one that plexus has too, or the check, at once or after an edit that is not timed.
 pub enum Asked {
     Call(Call),
-    Sound,
-    SoundAfter(Call),
+    Check,
+    CheckAfter(Call),
 }
 
 impl Cloth {
@@ -62,12 +62,11 @@ impl Cloth {
             ("arc extrude, shift", Call::ExtrudeArc(edge, shift())),
             ("arc extrude, scale", Call::ExtrudeArc(edge, scale())),
             ("arity", Call::Arity(middle)),
-            ("finished check", Call::Finished),
         ];
         let mut asked: Vec<(&str, Asked)> = calls.into_iter().map(|(name, call)| (name, Asked::Call(call))).collect();
-        asked.push(("soundness check", Asked::Sound));
+        asked.push(("check", Asked::Check));
         // A poke takes the row of the face that it removes, so that keys no longer rise from row to row.
-        asked.push(("soundness check, after a poke", Asked::SoundAfter(Call::PokeFace(middle, [0.5, 0.5, 0.5]))));
+        asked.push(("check, after a poke", Asked::CheckAfter(Call::PokeFace(middle, [0.5, 0.5, 0.5]))));
         asked
     }
 }

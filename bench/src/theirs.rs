@@ -47,18 +47,26 @@ impl Theirs {
         MeshGraph::oracle_from_records(&self.records)
     }
 
-    fn check_sound(&self, graph: &MeshGraph<Mesh>) -> (u32, f64) {
-        let (sound, took) = time(|| sound::check(&graph.oracle_records(self.records.counters)).is_ok());
-        (u32::from(!sound), took)
+    /// Sound is tested on all records. Then the vertices without an arc are counted, so that all are looked at, as the library does here, where
+    /// they stand last.
+    fn check(&self, graph: &MeshGraph<Mesh>) -> (u32, f64) {
+        time(|| {
+            if sound::check(&graph.oracle_records(self.records.counters)).is_err() {
+                return 1;
+            }
+            match graph.vertices().filter(|vertex| vertex.outgoing_arcs().next().is_none()).count() {
+                0 => 0,
+                _ => 3,
+            }
+        })
     }
 
     /// The call's number, and how long it took with the promise.
     pub fn ask(&mut self, asked: &Asked) -> (u32, f64) {
         let graph = self.graph();
         match asked {
-            Asked::Sound => self.check_sound(&graph),
-            Asked::SoundAfter(call) => self.check_sound(&graph.oracle_call(call).0),
-            Asked::Call(Call::Finished) => finished(&graph),
+            Asked::Check => self.check(&graph),
+            Asked::CheckAfter(call) => self.check(&graph.oracle_call(call).0),
             Asked::Call(call @ Call::Arity(_)) => {
                 let ((_, answer), took) = time(|| graph.oracle_call(call));
                 (if matches!(answer, Answer::Done(_)) { 0 } else { 4 }, took)
@@ -80,10 +88,4 @@ impl Theirs {
         let ((_graph, _answer), took) = time(|| graph.oracle_call(call));
         Some(took)
     }
-}
-
-/// The vertices without an arc are counted, so that all are looked at, as the library does here, where they stand last.
-fn finished(graph: &MeshGraph<Mesh>) -> (u32, f64) {
-    let (without, took) = time(|| graph.vertices().filter(|vertex| vertex.outgoing_arcs().next().is_none()).count());
-    (if without == 0 { 0 } else { 3 }, took)
 }

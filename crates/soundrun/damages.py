@@ -1,5 +1,6 @@
 #!/usr/bin/env python3
 # Writes the file stdin beside it, and stdout: meshes that are sound, and the damages that break one clause of Sound each.
+# To a damage the check answers 1, to a sound mesh 0, or 3 if some vertex has no leading arc.
 # A line is NAME: and stores of four numbers, TABLE LINK CELL VALUE. A line that starts with = is a mesh, stored into zeroed tables; any other is a
 # damage to the mesh above it. Tables: 0 vertices, 1 arcs, 2 edges, 3 faces, 4 counters (cell 0), 5 positions (VALUE is a code), 6 lengths
 # (LINK 1 vertices, 2 positions, 3 arcs, 4 edges, 5 faces; cell 0).
@@ -91,9 +92,11 @@ def failing(m):
 lines, answers = [], []
 base = None
 
-def write(name, stores, bad):
+def leadless(m): return any(m.cell(0, v, 1) == 0 for v in m.used(0))
+
+def write(name, stores, m, bad):
     lines.append(name + ': ' + ' '.join('%d %d %d %d' % s for s in stores))
-    answers.append('%s: %d' % (name.lstrip('= '), 1 if bad else 0))
+    answers.append('%s: %d' % (name.lstrip('= '), 1 if bad else 3 if leadless(m) else 0))
 
 def mesh(name, stores, sound=True):
     global base
@@ -102,7 +105,7 @@ def mesh(name, stores, sound=True):
     bad = failing(m)
     assert (not bad) == sound, (name, bad)
     base = m
-    write('= ' + name, stores, bad)
+    write('= ' + name, stores, m, bad)
     return bad
 
 def damage(clause, what, *stores, also=()):
@@ -110,7 +113,7 @@ def damage(clause, what, *stores, also=()):
     for s in stores: m.store(*s)
     bad = failing(m)
     assert clause in bad and bad <= {clause, *also}, (clause, what, bad)
-    write('%s, %s' % (clause, what), stores, bad)
+    write('%s, %s' % (clause, what), stores, m, bad)
 
 V, A, E, F, K, P, N = range(7)
 
@@ -271,6 +274,17 @@ mesh('a ring of 6', polygon(6))
 unsound('sources differ', 'a ring of 6 that meets its first vertex twice', along([1, 2, 3, 1, 4, 5]))
 unsound('sources differ', 'a ring of 6 that meets its second vertex twice', along([1, 2, 3, 4, 2, 5]))
 unsound('sources differ', 'a ring of 9 that meets a vertex three times', along([1, 2, 3, 1, 4, 5, 1, 6, 7]))
+
+def unfinished(name, stores):
+    mesh(name, stores)
+    assert leadless(base), name
+
+unfinished('after script Q, and a vertex without an arc', q + [(V, 6, 0, 6), (K, 1, 0, 6)])
+damage('keys below', 'the vertex without an arc at its counter', (K, 1, 0, 5))
+damage('all finite', 'NaN beside a vertex without an arc', (P, 1, 0, 1001))
+unfinished('after script Q, and a vertex whose leading arc is gone', q + [(V, 1, 1, 0)])
+damage('next leaves', 'next past the table, beside a leading arc that is gone', (A, o, 2, 21))
+unfinished('two vertices and no arc', rows(N, [(1, [2]), (2, [2])]) + rows(K, [(1, [2])]) + rows(V, [(1, [1]), (2, [2])]))
 
 here = os.path.dirname(os.path.abspath(__file__))
 open(here + '/stdin', 'w').write('\n'.join(lines) + '\n')

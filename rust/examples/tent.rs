@@ -46,6 +46,6 @@ fn main() -> Result<(), Refusal> {
     for panel in tent.faces() {
         print_panel(&tent, panel)?;
     }
-    println!("finished: {}", if tent.check_finished().is_ok() { "yes" } else { "no" });
+    println!("finished: {}", if tent.check().is_ok() { "yes" } else { "no" });
     Ok(())
 }

@@ -192,7 +192,7 @@ extern "C" {
         counters: *const Counters,
         face: u32,
     ) -> Reply;
-    fn ul_check_sound(
+    fn ul_check(
         vertices: *const VertexRow,
         vertex_count: usize,
         positions: *const PositionRow,
@@ -205,7 +205,6 @@ extern "C" {
         face_count: usize,
         counters: *const Counters,
     ) -> Reply;
-    fn ul_check_finished(vertices: *const VertexRow, vertex_count: usize) -> Reply;
 }
 
 /// How many vertices a face has. Reply: arity.
@@ -229,11 +228,12 @@ pub fn face_arity(mesh: Seen<'_>, counters: &Counters, face: u32) -> Reply {
     }
 }
 
-/// 0 if the tables are sound and within the limits, else 1. Reply: only the number.
-pub fn check_sound(mesh: Seen<'_>, counters: &Counters) -> Reply {
+/// 1 if the tables are not sound or not within the limits; or 3 if some vertex has no leading arc: sound, but not finished; or 0. In that order.
+/// Reply: only the number.
+pub fn check(mesh: Seen<'_>, counters: &Counters) -> Reply {
     // SAFETY: as above.
     unsafe {
-        ul_check_sound(
+        ul_check(
             mesh.vertices.as_ptr(),
             mesh.vertices.len(),
             mesh.positions.as_ptr(),
@@ -247,10 +247,4 @@ pub fn check_sound(mesh: Seen<'_>, counters: &Counters) -> Reply {
             counters,
         )
     }
-}
-
-/// 0 if every vertex has a leading arc, else 3. It reads the vertices alone, whatever their number. Reply: only the number.
-pub fn check_finished(vertices: &[VertexRow]) -> Reply {
-    // SAFETY: as above.
-    unsafe { ul_check_finished(vertices.as_ptr(), vertices.len()) }
 }

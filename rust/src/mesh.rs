@@ -24,9 +24,11 @@ impl Mesh {
         Mesh::from_tables(Tables::zeroed(vertices, edges, faces), [0; 3])
     }
 
-    /// The mesh in these tables, with these counters; [`Refusal::Tables`] unless they are sound and within the limits.
+    /// The mesh in these tables, with these counters, finished or not; [`Refusal::Tables`] unless they are sound and within the limits.
     pub fn from_tables(tables: Tables, counters: Counters) -> Result<Mesh, Refusal> {
-        calls::check_sound(tables.show(), &counters).accepted()?;
+        if calls::check(tables.show(), &counters).accepted() == Err(Refusal::Tables) {
+            return Err(Refusal::Tables);
+        }
         let room = || Tables::zeroed(tables.vertices.len(), tables.edges.len(), tables.faces.len());
         Ok(Mesh { one: room(), two: room(), tables, counters })
     }
@@ -147,16 +149,11 @@ impl Mesh {
         Ok(calls::face_arity(self.tables.show(), &self.counters, face.0).accepted()?.arity)
     }
 
-    /// Whether the tables are sound. For a `Mesh` they always are.
-    pub fn check_sound(&self) -> Result<(), Refusal> {
-        calls::check_sound(self.tables.show(), &self.counters).accepted().map(|_| ())
-    }
-
-    /// Whether the mesh is finished: every vertex has an edge.
+    /// Whether the mesh is sound, and then whether it is finished: every vertex has a leading arc, which its first edge gives it.
     ///
-    /// Refused: `TopologyMalformed`.
-    pub fn check_finished(&self) -> Result<(), Refusal> {
-        calls::check_finished(&self.tables.vertices).accepted().map(|_| ())
+    /// Refused: `TopologyMalformed` for a mesh that is not finished. `Tables` never comes, since a `Mesh` is always sound.
+    pub fn check(&self) -> Result<(), Refusal> {
+        calls::check(self.tables.show(), &self.counters).accepted().map(|_| ())
     }
 }
 

@@ -1,4 +1,4 @@
-// The queries as a program in C or Rust calls them: arity of a face, the soundness check, the finished check. They change nothing.
+// The queries as a program in C or Rust calls them: arity of a face, and the check. They change nothing.
 
 use rules::ArcRow;
 use rules::EdgeRow;
@@ -10,10 +10,10 @@ use tables::answers;
 ghost use mathlib.Core.Path.{_≡_};
 ghost use Rattle.rules.specs.Lent.{meshBefore};
 ghost use Rattle.rules.specs.Step.{told};
-ghost use Rattle.rules.specs.Call.{checkSound, checkFinished, faceArity};
+ghost use Rattle.rules.specs.Call.{checkMesh, faceArity};
 
 #[no_mangle]
-pub extern "C" fn ul_check_sound(
+pub extern "C" fn ul_check(
     vertices: &[VertexRow],
     positions: &[PositionRow],
     arcs: &[ArcRow],
@@ -21,16 +21,9 @@ pub extern "C" fn ul_check_sound(
     faces: &[FaceRow],
     counters: &[u32; 3],
 ) -> Reply
-    ensures { λ r. ⌜ r ≡ told (checkSound (meshBefore vertices positions arcs edges faces counters)) ⌝ }
+    ensures { λ r. ⌜ r ≡ told (checkMesh (meshBefore vertices positions arcs edges faces counters)) ⌝ }
 {
-    answers::told(sound::queries::check_sound(vertices, positions, arcs, edges, faces, counters))
-}
-
-#[no_mangle]
-pub extern "C" fn ul_check_finished(vertices: &[VertexRow]) -> Reply
-    ensures { λ r. ⌜ r ≡ told (checkFinished (now (vertices .entry))) ⌝ }
-{
-    answers::told(sound::queries::check_finished(vertices))
+    answers::told(sound::queries::check_mesh(vertices, positions, arcs, edges, faces, counters))
 }
 
 #[no_mangle]

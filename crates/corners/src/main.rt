@@ -132,10 +132,18 @@ fn ask_all(
 }
 
 // The counts after a corner's lines, held to those wanted.
-fn end_of(vertices: &Vertices, edges: &Edges, faces: &Faces, corner: u32) -> bool {
+fn end_of(
+    vertices: &Vertices,
+    positions: &Positions,
+    arcs: &Arcs,
+    edges: &Edges,
+    faces: &Faces,
+    counters: &[u32; 3],
+    corner: u32,
+) -> bool {
     let mut out = [0u8; 64];
     let mut wanted = [0u8; 64];
-    let n = counts::put_counts(vertices, edges, faces, &mut out);
+    let n = counts::put_counts(vertices, positions, arcs, edges, faces, counters, &mut out);
     let w = put_end_of(corner, &mut wanted);
     held_to(&out[0..n], &wanted[0..w])
 }
@@ -164,7 +172,15 @@ fn run_corner(corner: u32) {
         &mut counters,
         corner,
     ) {
-        say_ok(end_of(&vertices, &edges, &faces, corner));
+        say_ok(end_of(
+            &vertices,
+            &positions,
+            &arcs,
+            &edges,
+            &faces,
+            &counters,
+            corner,
+        ));
     }
 }
 

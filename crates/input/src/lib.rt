@@ -183,9 +183,17 @@ pub fn run_script(
     )
 }
 
-// The last line, `end` with the counts of vertices, edges, faces.
-pub fn write_end(vertices: &Vertices, edges: &Edges, faces: &Faces, out: &mut [u8; ANSWERS]) {
-    let n = counts::put_counts(vertices, edges, faces, out);
+// The check, and unless it answers 1 the last line, `end` with the counts of vertices, edges, faces.
+pub fn write_end(
+    vertices: &Vertices,
+    positions: &Positions,
+    arcs: &Arcs,
+    edges: &Edges,
+    faces: &Faces,
+    counters: &[u32; 3],
+    out: &mut [u8; ANSWERS],
+) {
+    let n = counts::put_counts(vertices, positions, arcs, edges, faces, counters, out);
     let text = &out[..];
     io::write_all(STDOUT_FILENO, &text[0..n]);
 }

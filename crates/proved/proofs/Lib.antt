@@ -7,6 +7,7 @@ pub mod Totals
 pub mod Clauses
 pub mod Edges
 pub mod Reached
+pub mod EndStays
 pub mod Demand3
 pub mod RowsStay
 pub mod Triangle

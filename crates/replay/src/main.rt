@@ -66,7 +66,7 @@ fn put_piece(
         b'E' => listed::put_records(Kind::Edges, vertices, positions, arcs, edges, faces, out),
         b'F' => listed::put_records(Kind::Faces, vertices, positions, arcs, edges, faces, out),
         b'C' => dumps::put_counters(out, 0, counters[0], counters[1], counters[2]),
-        _ => counts::put_counts(vertices, edges, faces, out),
+        _ => counts::put_counts(vertices, positions, arcs, edges, faces, &counters, out),
     }
 }
 

@@ -1,5 +1,6 @@
 -- What holds of every public call, whatever it is lent and given: a refusal changes nothing and tells nothing but its number; both rooms
--- end zero, or are untouched where the answer is 1; and no second outcome meets a call's statement. Assumes nothing.
+-- end zero, or are untouched where the answer is 1; unsound tables are refused by number, by every call; the check answers 1, 3 or 0 exactly
+-- where it must; and no second outcome meets a call's statement. Assumes nothing.
 use Prim.Native.Nat.{ℕ, zero, suc, _+_, _-_}
 use mathlib.Core.Path.{_≡_, refl, ap, sym, subst, _∙_}
 use mathlib.Core.Bool.{Bool, true, false, not, _&&_, _||_, cond, true≢false, false≢true}
@@ -25,7 +26,7 @@ use Rattle.rules.specs.Insert.{malformed, hasFace, conflict, insertCheck
 use Rattle.rules.specs.Edit.{known, remove, removeWork, place, ringDistance, half, heldByOther, corners, splitChecks, splitWork, pokeWork, arcBridgeChecks, arcBridgeWork, arcBridge, bridgeChecks, bridgeWork}
 use Rattle.rules.specs.Extrude.{Copies, copies, wall, extrudeWork, arcExtrudeChecks, arcExtrudeWork}
 use Rattle.rules.specs.Sound.{sound}
-use Rattle.rules.specs.Call.{Outcome, outcome, ready, zeroed, given, checks, movesFinite, roomFor, need, work, lastStep, worked, decided, kept, called, byKeys, arcByKeys, faceArity, checkSound}
+use Rattle.rules.specs.Call.{Outcome, outcome, ready, zeroed, given, checks, movesFinite, roomFor, need, work, lastStep, worked, decided, kept, called, byKeys, arcByKeys, faceArity, finished, checkMesh}
 
 -- ---- answers
 
@@ -300,6 +301,78 @@ module _ (m : Mesh) (one two : Room) (c : Call) (keys : List ℕ) where
       go : (b : Bool) → told (left m one two (decided m (c .edit) keys) b .answer) .number ≡ 1 → b ≡ false
       go true h = absurd (fair-decided m (c .edit) keys h)
       go false h = refl
+
+-- ---- the check
+
+module _ (m : Mesh) where
+  check-unsound : sound m ≡ false → told (checkMesh m) .number ≡ 1
+  unfolding checkMesh told numberOf
+  check-unsound s = rw s
+
+  check-unfinished : sound m ≡ true → finished m ≡ false → told (checkMesh m) .number ≡ 3
+  unfolding checkMesh told numberOf
+  check-unfinished s f = rw (s, f)
+
+  check-done : sound m ≡ true → finished m ≡ true → told (checkMesh m) .number ≡ 0
+  unfolding checkMesh told numberOf
+  check-done s f = rw (s, f)
+
+-- it answers 1 exactly where the tables are unsound; 3 exactly where they are sound and some vertex has no leading arc; 0 exactly where they
+-- are sound and each has one
+pub record CheckExactly (m : Mesh) : Type 0 where
+  pub answers-1 : (told (checkMesh m) .number ≡ 1) ↔ (sound m ≡ false)
+  pub answers-3 : (told (checkMesh m) .number ≡ 3) ↔ ((sound m ≡ true) × (finished m ≡ false))
+  pub answers-0 : (told (checkMesh m) .number ≡ 0) ↔ ((sound m ≡ true) × (finished m ≡ true))
+
+pub check-exactly : (m : Mesh) → CheckExactly m
+check-exactly m =
+    record {
+      answers-1 = (λ h. only-one (sound m) refl (finished m) refl h, check-unsound m);
+      answers-3 = (λ h. only-three (sound m) refl (finished m) refl h, λ p. check-unfinished m (p .0) (p .1));
+      answers-0 = (λ h. only-zero (sound m) refl (finished m) refl h, λ p. check-done m (p .0) (p .1));
+    }
+  where
+    n : ℕ
+    n = told (checkMesh m) .number
+
+    only-one : (s : Bool) → sound m ≡ s → (f : Bool) → finished m ≡ f → n ≡ 1 → s ≡ false
+    only-one false p f q h = refl
+    only-one true p false q h = absurd (omega (arith, h, check-unfinished m p q))
+    only-one true p true q h = absurd (omega (arith, h, check-done m p q))
+
+    only-three : (s : Bool) → sound m ≡ s → (f : Bool) → finished m ≡ f → n ≡ 3 → (s ≡ true) × (f ≡ false)
+    only-three false p f q h = absurd (omega (arith, h, check-unsound m p))
+    only-three true p false q h = (refl, refl)
+    only-three true p true q h = absurd (omega (arith, h, check-done m p q))
+
+    only-zero : (s : Bool) → sound m ≡ s → (f : Bool) → finished m ≡ f → n ≡ 0 → (s ≡ true) × (f ≡ true)
+    only-zero false p f q h = absurd (omega (arith, h, check-unsound m p))
+    only-zero true p false q h = absurd (omega (arith, h, check-unfinished m p q))
+    only-zero true p true q h = (refl, refl)
+
+-- ---- unsound tables are refused by number, by every call: any edit, the arity, the check
+
+pub record UnsoundRefused (m : Mesh) : Type 0 where
+  pub edits : (one two : Room) (c : Call) (keys : List ℕ) → told (called m one two c keys .answer) .number ≡ 1
+  pub arity : (f : ℕ) → told (faceArity m f) .number ≡ 1
+  pub check : told (checkMesh m) .number ≡ 1
+
+module _ (m : Mesh) (s : sound m ≡ false) where
+  not-ready : (one two : Room) → ready m one two ≡ false
+  unfolding ready
+  not-ready one two = rw s
+
+  arity-unsound : (f : ℕ) → told (faceArity m f) .number ≡ 1
+  unfolding faceArity told numberOf
+  arity-unsound f = rw s
+
+  pub unsound-refused : UnsoundRefused m
+  unsound-refused =
+      record {
+        edits = λ one two c keys. one-exactly m one two c keys .1 (not-ready one two);
+        arity = arity-unsound;
+        check = check-unsound m s;
+      }
 
 -- a statement is an equation with what is defined, so no second outcome meets it: for every call, and for every query
 pub one-answer {ℓ} : {A : Type ℓ} (defined first second : A) → first ≡ defined → second ≡ defined → first ≡ second

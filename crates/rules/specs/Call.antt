@@ -230,12 +230,14 @@ faceArity m f =
     cond (not (sound m)) (Refused Tables)
     (cond (eqb (findFace m f) 0) (Refused TopologyNotFound) (Arity (length (ring m (findFace m f)))))
 
-unfoldable pub checkSound : Mesh → Answer
-checkSound m = cond (sound m) Done (Refused Tables)
-
--- it reads the vertices alone, and answers 3 if some vertex has no leading arc
+-- a vertex without a leading arc
 abbrev pub leadless : List ℕ → Bool
 leadless r = not (unused r) && eqb (getD r 1 0) 0
 
-unfoldable pub checkFinished : Table → Answer
-checkFinished vertices = cond (every (λ r. not (leadless r)) vertices) Done (Refused TopologyMalformed)
+-- no vertex is without one
+unfoldable pub finished : Mesh → Bool
+finished m = every (λ r. not (leadless r)) (m .vertices)
+
+-- the check: 1 for unsound tables, or 3 if some vertex has no leading arc, or 0, in that order
+unfoldable pub checkMesh : Mesh → Answer
+checkMesh m = cond (not (sound m)) (Refused Tables) (cond (finished m) Done (Refused TopologyMalformed))

@@ -8,7 +8,7 @@ use lib.Dec.{ltb}
 use lib.Ieee.{Float, binary64, toBits}
 use Rattle.rules.specs.Mesh.{Mesh}
 use Rattle.rules.specs.Records.{VertexRecord, ArcRecord, EdgeRecord, FaceRecord, Records, records}
-use Rattle.rules.specs.Script.{Text, bytes, space, newline, digitZero, decimal, spaced, State, state, emptyRoom, emptyMesh, afterLines, linesOf, endText}
+use Rattle.rules.specs.Script.{Text, bytes, space, newline, digitZero, decimal, spaced, State, afterScript, checkedEnd}
 
 -- ---- words, each after a space
 
@@ -54,12 +54,12 @@ recordsText r =
     ++ (linesBy arcLine (r .arcs)
     ++ (linesBy edgeLine (r .edges) ++ (linesBy faceLine (r .faces) ++ (bytes "C" ++ (spaced (r .counters) ++ (newline ∷ []))))))
 
--- ---- meshdump: the answers, then all records, then `end`
+-- ---- meshdump: the answers, then all records, then the check and `end`
 
 unfoldable pub dumpedOn : ℕ → ℕ → ℕ → Text → Text
 dumpedOn vertices edges faces input =
-    let s = afterLines (emptyRoom vertices edges faces) (state [] (emptyMesh vertices edges faces)) (linesOf input) in
-    s .written ++ (recordsText (records (s .mesh)) ++ endText (s .mesh))
+    let s = afterScript vertices edges faces input in
+    s .written ++ (recordsText (records (s .mesh)) ++ checkedEnd (s .mesh))
 
 unfoldable pub dumped : Text → Text
 dumped input = dumpedOn 64 128 64 input

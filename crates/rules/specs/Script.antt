@@ -21,8 +21,8 @@ use Rattle.rules.specs.declared.Edit.the-variants.{VertexInsert, FaceIns
 use Rattle.rules.specs.Table.{count, used, every}
 use Rattle.rules.specs.Mesh.{Mesh, mesh, Room, room}
 use Rattle.rules.specs.Point.{zeroFloat, position}
-use Rattle.rules.specs.Step.{numberOf}
-use Rattle.rules.specs.Call.{Outcome, call, called}
+use Rattle.rules.specs.Step.{numberOf, told}
+use Rattle.rules.specs.Call.{Outcome, call, called, checkMesh}
 
 abbrev pub Text : Type 0
 Text = List ℕ
@@ -283,15 +283,22 @@ unfoldable pub afterLines : Room → State → List Text → State
 afterLines r s [] = s
 afterLines r s (l ∷ ls) = afterLines r (afterLine r s (lineIn l)) ls
 
+-- a whole script, from an empty mesh with tables of so many vertices, edges and faces
+unfoldable pub afterScript : ℕ → ℕ → ℕ → Text → State
+afterScript vertices edges faces input =
+    afterLines (emptyRoom vertices edges faces) (state [] (emptyMesh vertices edges faces)) (linesOf input)
+
 -- and last `end` with the counts of vertices, edges, faces
 unfoldable pub endText : Mesh → Text
 endText m = bytes "end" ++ (spaced (count used (m .vertices) ∷ count used (m .edges) ∷ count used (m .faces) ∷ []) ++ (newline ∷ []))
 
--- on tables of so many vertices, edges and faces
+-- before it the script makes the check. Where that answers 1 nothing is written, which no script from an empty mesh meets; with 3, as with 0,
+-- the line is
+unfoldable pub checkedEnd : Mesh → Text
+checkedEnd m = cond (eqb (told (checkMesh m) .number) 1) [] (endText m)
+
 unfoldable pub programOn : ℕ → ℕ → ℕ → Text → Text
-programOn vertices edges faces input =
-    let s = afterLines (emptyRoom vertices edges faces) (state [] (emptyMesh vertices edges faces)) (linesOf input) in
-    s .written ++ endText (s .mesh)
+programOn vertices edges faces input = let s = afterScript vertices edges faces input in s .written ++ checkedEnd (s .mesh)
 
 -- meshrun: 64 vertices, 128 edges and 64 faces
 unfoldable pub program : Text → Text

@@ -17,7 +17,7 @@ use Rattle.rules.specs.declared.Call.{Call}
 use Rattle.rules.specs.Call.{called, call, zeroed}
 use Rattle.rules.specs.Records.{records}
 use Rattle.rules.specs.Dump.{recordsText, dumped, dumpedOn}
-use Rattle.rules.specs.Script.{Text, newline, withHead, partsAt, withoutLastEmpty, linesOf, Line, unreadable, says, lineIn, emptyRoom, emptyMesh, State, state, afterLine, afterLines, endText, program, programOn}
+use Rattle.rules.specs.Script.{Text, newline, withHead, partsAt, withoutLastEmpty, linesOf, Line, unreadable, says, lineIn, emptyRoom, emptyMesh, State, state, afterLine, afterLines, afterScript, program, programOn}
 use Rattle.rules.proofs.Promises.{rooms-end-zero, one-untouched}
 use Rattle.script.specs.Texts.{Written, written}
 use Rattle.script.proofs.Says.{line-long}
@@ -251,12 +251,9 @@ chunks-on s (c ∷ cs) = rw (chunk-on s c) (chunks-on (fed s c) cs)
 
 -- ---- the programs
 
--- where the definition stands at the end of an input
-ended : Text → State
-ended input = afterLines (emptyRoom 64 128 64) (state [] (emptyMesh 64 128 64)) (linesOf input)
-
-input-ends : (chunks : List Text) → inputFed begin chunks .done ≡ standing (emptyRoom 64 128 64) (empty-zeroed 64 128 64) (ended (joined chunks))
-unfolding begin ended standing
+input-ends : (chunks : List Text)
+    → inputFed begin chunks .done ≡ standing (emptyRoom 64 128 64) (empty-zeroed 64 128 64) (afterScript 64 128 64 (joined chunks))
+unfolding begin afterScript standing
 input-ends chunks =
     ap (λ (s : Feeding). s .done) (chunks-on begin chunks)
     ∙ input-lines ranOn (begin .done) chunks
@@ -265,9 +262,9 @@ input-ends chunks =
 -- meshrun writes what document 01's program writes, in whatever chunks the input comes
 pub program-runs : (chunks : List Text) → meshrunWrites chunks ≡ program (joined chunks)
 unfolding meshrunWrites program programOn
-program-runs chunks = rw (input-ends chunks) (unfold standing in unfold ended in refl)
+program-runs chunks = rw (input-ends chunks) (unfold standing in refl)
 
 -- and meshdump the same with all records before the last line
 pub program-dumps : (chunks : List Text) → meshdumpWrites chunks ≡ dumped (joined chunks)
 unfolding meshdumpWrites dumped dumpedOn
-program-dumps chunks = rw (input-ends chunks) (unfold standing in unfold ended in refl)
+program-dumps chunks = rw (input-ends chunks) (unfold standing in refl)

@@ -3,7 +3,7 @@ use mathlib.Core.List.{List, [], _∷_, _++_}
 use lib.ListN.{replicate}
 use Rattle.rules.specs.Records.{records}
 use Rattle.rules.specs.Dump.{recordsText}
-use Rattle.rules.specs.Script.{Text, emptyRoom, emptyMesh, endText}
+use Rattle.rules.specs.Script.{Text, emptyRoom, emptyMesh, checkedEnd}
 use Rattle.script.specs.Texts.{Written, written}
 use Rattle.runs.specs.Gather.{mostHeld, Cut, cut, cutAll, lacking}
 use Rattle.runs.specs.Feed.{Feeding, unwritten, fed, prefixed}
@@ -46,7 +46,7 @@ begin = unwritten (emptyMesh 64 128 64) (emptyRoom 64 128 64) (emptyRoom 64 128 
 
 -- what meshrun writes, and what meshdump writes
 unfoldable pub meshrunWrites : List Text → Text
-meshrunWrites chunks = let s = inputFed begin chunks .done in s .text ++ endText (s .mesh)
+meshrunWrites chunks = let s = inputFed begin chunks .done in s .text ++ checkedEnd (s .mesh)
 
 unfoldable pub meshdumpWrites : List Text → Text
-meshdumpWrites chunks = let s = inputFed begin chunks .done in s .text ++ (recordsText (records (s .mesh)) ++ endText (s .mesh))
+meshdumpWrites chunks = let s = inputFed begin chunks .done in s .text ++ (recordsText (records (s .mesh)) ++ checkedEnd (s .mesh))

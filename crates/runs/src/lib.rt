@@ -11,7 +11,7 @@ use rules::VertexRow;
 pub mod run; // run.rt: one line, one call, one answer
 pub mod gather; // gather.rt: the lines of an input, cut out of the chunks in which it is read
 pub mod feed; // feed.rt: a chunk of input, with all lines that end in it
-pub mod counts; // counts.rt: the last line
+pub mod counts; // counts.rt: the check, and the last line
 
 // Tables of 64 vertices, 128 edges and 64 faces, and two arcs for each edge.
 pub type Vertices = [VertexRow; 64];

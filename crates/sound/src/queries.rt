@@ -1,5 +1,6 @@
-// All of "Sound means" in one answer, and the three queries: check_sound, check_finished, face_arity. They change nothing and need no room.
-// It carries document 01's answers 1 ("a table is unsound or over the limit"), 3 of the finished check and 4 of an unknown face.
+// All of "Sound means" in one answer, and the two queries: check_mesh, face_arity. They change nothing and need no room.
+// It carries document 01's answers 1 ("a table is unsound or over the limit"), 3 of a vertex without a leading arc and 4 of an unknown face,
+// and document 02's one check in place of two.
 
 use crate::faces;
 use crate::keys;
@@ -24,7 +25,7 @@ ghost use Rattle.rules.specs.Mesh.{Mesh, faceArc};
 ghost use Rattle.rules.specs.Lent.{meshBefore};
 ghost use Rattle.rules.specs.Link as Link;
 ghost use Rattle.rules.specs.Sound.{sound};
-ghost use Rattle.rules.specs.Call.{checkSound, checkFinished, faceArity, leadless};
+ghost use Rattle.rules.specs.Call.{checkMesh, faceArity, leadless};
 
 // ---- soundness
 
@@ -75,23 +76,6 @@ pub fn is_sound(
 
 // ---- the queries
 
-// Done for sound tables, else 1.
-pub fn check_sound(
-    vertices: &[VertexRow],
-    positions: &[PositionRow],
-    arcs: &[ArcRow],
-    edges: &[EdgeRow],
-    faces: &[FaceRow],
-    counters: &[u32; 3],
-) -> Answer
-    ensures { λ r. ⌜ r ≡ checkSound (meshBefore vertices positions arcs edges faces counters) ⌝ }
-{
-    if is_sound(vertices, positions, arcs, edges, faces, counters) {
-        return Answer::Done;
-    }
-    Answer::Refused(Refusal::Tables)
-}
-
 // Whether a row is no vertex without a leading arc.
 fn leads(row: VertexRow) -> bool
     ensures { λ r. ⌜ r ≡ not (leadless row) ⌝ }
@@ -115,10 +99,20 @@ fn all_lead(vertices: &[VertexRow]) -> bool
     true
 }
 
-// 3 if some vertex has no leading arc, else done, whatever the vertices hold.
-pub fn check_finished(vertices: &[VertexRow]) -> Answer
-    ensures { λ r. ⌜ r ≡ checkFinished (now (vertices .entry)) ⌝ }
+// 1 for unsound tables, or 3 if some vertex has no leading arc, or done, in that order.
+pub fn check_mesh(
+    vertices: &[VertexRow],
+    positions: &[PositionRow],
+    arcs: &[ArcRow],
+    edges: &[EdgeRow],
+    faces: &[FaceRow],
+    counters: &[u32; 3],
+) -> Answer
+    ensures { λ r. ⌜ r ≡ checkMesh (meshBefore vertices positions arcs edges faces counters) ⌝ }
 {
+    if !is_sound(vertices, positions, arcs, edges, faces, counters) {
+        return Answer::Refused(Refusal::Tables);
+    }
     if all_lead(vertices) {
         return Answer::Done;
     }

@@ -1,5 +1,6 @@
-// Meshes that are sound, and damages that break one clause of Sound each: reads a script (crates/soundrun/damages.py writes it), and prints for
-// each line its name and the number of check_sound's answer. A line that starts with = is a mesh, any other a damage to the mesh above it.
+// Meshes that are sound, finished or not, and damages that break one clause of Sound each: reads a script (crates/soundrun/damages.py
+// writes it), and prints for each line its name and the number of check_mesh's answer. A line that starts with = is a mesh, any other a
+// damage to the mesh above it.
 
 mod text; // text.rt: the lines of the script
 mod mesh; // mesh.rt: the tables that a line stores into

@@ -1,4 +1,4 @@
-// The tables that a line of the script stores into, and the answer of check_sound to them.
+// The tables that a line of the script stores into, and the answer of check_mesh to them.
 
 use crate::text;
 use crate::text::Store;
@@ -142,7 +142,7 @@ fn lesser(a: usize, b: usize) -> usize
     b
 }
 
-// The number of check_sound's answer to as many rows of each table as the sizes say.
+// The number of check_mesh's answer to as many rows of each table as the sizes say.
 fn checked(
     vertices: &[VertexRow],
     positions: &[PositionRow],
@@ -157,7 +157,7 @@ fn checked(
     let a = lesser(rows::wide(sizes[2]), arcs.len());
     let e = lesser(rows::wide(sizes[3]), edges.len());
     let f = lesser(rows::wide(sizes[4]), faces.len());
-    let answer = queries::check_sound(
+    let answer = queries::check_mesh(
         &vertices[..v],
         &positions[..p],
         &arcs[..a],

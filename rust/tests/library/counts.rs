@@ -3,7 +3,7 @@
 use std::collections::BTreeMap;
 use std::fmt;
 
-const LETTERS: [(char, &str); 14] = [
+const LETTERS: [(char, &str); 13] = [
     ('v', "vertex insert"),
     ('f', "face insert"),
     ('r', "face remove"),
@@ -16,8 +16,7 @@ const LETTERS: [(char, &str); 14] = [
     ('a', "arc extrude, shift"),
     ('A', "arc extrude, scale"),
     ('n', "arity"),
-    ('c', "finished check"),
-    ('d', "soundness check"),
+    ('c', "check"),
 ];
 
 #[derive(Clone, Default)]

@@ -1,5 +1,5 @@
-//! Damaged tables: each phrase of Sound broken, one damage at a time, on random sound meshes. Every call but the finished check answers 1, and
-//! every bit of mesh, counters and rooms is as it was.
+//! Damaged tables: each phrase of Sound broken, one damage at a time, on random sound meshes. Every call answers 1, and every bit of mesh,
+//! counters and rooms is as it was.
 
 use ullarvesp::{calls, Mesh, Refusal, Tables};
 
@@ -272,15 +272,24 @@ fn change_a_cell(m: &mut Damaged, rng: &mut Rng) -> Option<()> {
     Some(())
 }
 
-/// The library on these tables: the soundness check agrees with the tests' own reading; if they are unsound, every call answers 1 and
+/// The library on these tables: the check agrees with the tests' own reading, 1 before 3; if they are unsound, every call answers 1 and
 /// touches nothing.
 fn hold(m: &Damaged, edits: &[Line], rng: &mut Rng, counts: &mut Counts, what: &str) {
     let wrong = broken(&m.t, m.counters);
-    let told = calls::check_sound(m.t.show(), &m.counters);
-    counts.answered('d', told.number);
+    let leadless = m.t.vertices.iter().any(|row| row[0] != 0 && row[1] == 0);
+    let expected = match (wrong.is_empty(), leadless) {
+        (false, _) => 1,
+        (true, true) => 3,
+        (true, false) => 0,
+    };
+    let told = calls::check(m.t.show(), &m.counters);
+    counts.answered('c', told.number);
+    if !wrong.is_empty() && leadless {
+        counts.note("unsound and unfinished");
+    }
     let fail = |why: &str| panic!("{what}: {why}; broken: {wrong:?}\ncounters {:?}\n{:?}", m.counters, m.t);
-    if told != (calls::Reply { number: u32::from(!wrong.is_empty()), ..Default::default() }) {
-        fail(&format!("the soundness check answers {told:?}"));
+    if told != (calls::Reply { number: expected, ..Default::default() }) {
+        fail(&format!("the check answers {told:?}"));
     }
     match Mesh::from_tables(m.t.clone(), m.counters) {
         Ok(_) if wrong.is_empty() => return counts.note("still sound"),
@@ -303,12 +312,6 @@ fn hold(m: &Damaged, edits: &[Line], rng: &mut Rng, counts: &mut Counts, what: &
         if reply != (calls::Reply { number: 1, ..Default::default() }) || !kept || !rooms {
             fail(&format!("{line} answers {reply:?}; mesh kept: {kept}, rooms kept: {rooms}"));
         }
-    }
-    let leadless = m.t.vertices.iter().any(|row| row[0] != 0 && row[1] == 0);
-    let finished = calls::check_finished(&m.t.vertices).number;
-    counts.answered('c', finished);
-    if finished != if leadless { 3 } else { 0 } {
-        fail(&format!("the finished check answers {finished}"));
     }
 }
 

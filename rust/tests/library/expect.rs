@@ -75,7 +75,7 @@ pub fn need(line: &Line, mesh: &Records) -> [usize; 4] {
         }
         Line::Join(a, b, c, d) => insert(&[*a, *b, *c, *d]),
         Line::ArcExtrude(..) => [2, 3, 1, 1],
-        Line::Remove(_) | Line::Arity(_) | Line::Finished | Line::Ring(_) => [0; 4],
+        Line::Remove(_) | Line::Arity(_) | Line::Check | Line::Ring(_) => [0; 4],
     }
 }
 

@@ -263,7 +263,7 @@ pub fn random_line(rng: &mut Rng, mesh: &Records, profile: &Profile) -> Line {
             Line::ArcExtrude(arc.0, arc.1, by)
         }
         'n' => Line::Arity(view.face(rng)),
-        'c' => Line::Finished,
+        'c' => Line::Check,
         'g' => Line::Ring(view.face(rng)),
         _ => {
             let n = rng.pick(profile.arities);

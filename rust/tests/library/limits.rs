@@ -91,8 +91,7 @@ fn over_the_limits() {
         let mut lines = every_edit(&mut rng, &Default::default());
         lines.push(Line::Arity(0));
         all_refused(&lending, &lines, &mut counts, "over the limit");
-        assert_eq!(calls::check_sound(tables.show(), &[0; 3]).number, 1);
-        assert_eq!(calls::check_finished(&tables.vertices).number, 0);
+        assert_eq!(calls::check(tables.show(), &[0; 3]).number, 1);
         assert_eq!(Mesh::from_tables(tables, [0; 3]).unwrap_err(), Refusal::Tables);
     }
     println!("over the limits: {} calls\n{counts}", counts.calls());
@@ -130,19 +129,20 @@ fn tables_of_no_rows() {
         assert_eq!(reply.number, wanted, "{line}");
         assert!(all_zero(&lent.one) && all_zero(&lent.two));
     }
-    assert_eq!(calls::check_sound(Tables::default().show(), &[0; 3]).number, 0);
-    assert_eq!(calls::check_finished(&[]).number, 0);
+    assert_eq!(calls::check(Tables::default().show(), &[0; 3]).number, 0);
     println!("tables of no rows: {} calls\n{counts}", counts.calls());
 }
 
 #[test]
-fn the_finished_check_reads_any_number_of_rows() {
-    let mut vertices = vec![[1, 1]; 10_000];
-    assert_eq!(calls::check_finished(&vertices).number, 0);
-    vertices[9999] = [7, 0];
-    assert_eq!(calls::check_finished(&vertices).number, 3);
-    vertices[9999] = [0, 0];
-    assert_eq!(calls::check_finished(&vertices).number, 0);
+fn one_before_three_before_zero() {
+    let mut tables = Tables::zeroed(4096, 8192, 4096);
+    let check = |tables: &Tables, vertices: u32| calls::check(tables.show(), &[vertices, 0, 0]).number;
+    assert_eq!(check(&tables, 0), 0);
+    tables.vertices[4095] = [1, 0];
+    assert_eq!(check(&tables, 1), 3, "sound and unfinished");
+    assert_eq!(check(&tables, 0), 1, "unsound and unfinished");
+    assert_eq!(Mesh::from_tables(tables.clone(), [1, 0, 0]).unwrap().check(), Err(Refusal::TopologyMalformed));
+    assert_eq!(Mesh::from_tables(tables, [0; 3]).unwrap_err(), Refusal::Tables);
 }
 
 #[test]

@@ -19,7 +19,7 @@ pub enum Line {
     Extrude(u32, Move),
     ArcExtrude(u32, u32, Move),
     Arity(u32),
-    Finished,
+    Check,
     /// The vertices of a ring: asked of the crate's iterator, no call of the library.
     Ring(u32),
 }
@@ -62,13 +62,13 @@ impl Line {
             Line::ArcExtrude(_, _, Move::Shift(_)) => 'a',
             Line::ArcExtrude(_, _, Move::Scale { .. }) => 'A',
             Line::Arity(_) => 'n',
-            Line::Finished => 'c',
+            Line::Check => 'c',
             Line::Ring(_) => 'g',
         }
     }
 
     pub fn is_query(&self) -> bool {
-        matches!(self, Line::Arity(_) | Line::Finished | Line::Ring(_))
+        matches!(self, Line::Arity(_) | Line::Check | Line::Ring(_))
     }
 
     /// Reads a line of the oracle's scripts; none for those that only it has.
@@ -90,7 +90,7 @@ impl Line {
             "a" => Line::ArcExtrude(key(1), key(2), Move::Shift(point(3))),
             "A" => Line::ArcExtrude(key(1), key(2), scale(3)),
             "n" => Line::Arity(key(1)),
-            "c" => Line::Finished,
+            "c" => Line::Check,
             "g" => Line::Ring(key(1)),
             _ => return None,
         })
@@ -123,7 +123,7 @@ impl Line {
             Line::ArcExtrude(s, d, by) => Line::ArcExtrude(v(s), v(d), by),
             Line::Arity(face) => Line::Arity(f(face)),
             Line::Ring(face) => Line::Ring(f(face)),
-            line @ (Line::Vertex(_) | Line::Finished) => line,
+            line @ (Line::Vertex(_) | Line::Check) => line,
         }
     }
 
@@ -152,7 +152,7 @@ impl Line {
                 edit!(arc_extrude_scale(*s, *d, *x, *y, *z, *factor))
             }
             Line::Arity(face) => calls::face_arity(tables.show(), counters, *face),
-            Line::Finished => calls::check_finished(&tables.vertices),
+            Line::Check => calls::check(tables.show(), counters),
             Line::Ring(_) => Reply::default(),
         }
     }
@@ -176,7 +176,7 @@ impl Line {
             Line::Extrude(face, by) => mesh.face_extrude(FaceKey(*face), *by).map(|key| vec![key.0]),
             Line::ArcExtrude(s, d, by) => mesh.arc_extrude(arc(s, d), *by).map(ends),
             Line::Arity(face) => mesh.face_arity(FaceKey(*face)).map(|arity| vec![arity]),
-            Line::Finished => mesh.check_finished().map(|()| vec![]),
+            Line::Check => mesh.check().map(|()| vec![]),
             Line::Ring(face) => mesh.ring(FaceKey(*face)).map(|ring| ring.map(|vertex| vertex.key.0).collect()),
         };
         match answered {
@@ -202,7 +202,7 @@ impl Line {
                 (vec![vertex(source), vertex(destination)], Reply { source, destination, ..Reply::default() })
             }
             Line::Arity(_) => (vec![arity], Reply { arity, ..Reply::default() }),
-            Line::Bridge(..) | Line::Finished | Line::Ring(_) => (vec![], Reply::default()),
+            Line::Bridge(..) | Line::Check | Line::Ring(_) => (vec![], Reply::default()),
         };
         (reply == told).then_some(Answer { number: 0, values })
     }
@@ -212,7 +212,7 @@ impl fmt::Display for Line {
     fn fmt(&self, f: &mut fmt::Formatter<'_>) -> fmt::Result {
         write!(f, "{}", self.letter())?;
         match self {
-            Line::Vertex(_) | Line::Finished => {}
+            Line::Vertex(_) | Line::Check => {}
             Line::Face(mark, keys) => {
                 write!(f, " {mark}")?;
                 keys.iter().try_for_each(|key| write!(f, " {key}"))?;

@@ -28,7 +28,7 @@ fn every_call(mut mesh: Mesh) {
     assert_eq!(mesh.face_remove(removed), Ok(1));
     let seam = mesh.arc_extrude(Arc(ends[0], ends[1]), Move::Shift([0.0, 0.0, 1.0])).unwrap();
     mesh.arc_bridge(Arc(ends[32], ends[33]), Arc(seam.1, seam.0)).unwrap();
-    mesh.check_sound().unwrap();
+    mesh.check().unwrap();
 }
 
 /// An edit at a vertex with more seams than the library lists near an edit: it tests all tables once more.
