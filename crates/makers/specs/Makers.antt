@@ -1,35 +1,49 @@
--- The nine edits once more, with the making of a vertex, an edge and a face left open: any three makers may stand in for rules 1, 4 and 5.
--- With the rules' own makers they are the edits (proofs/Makers, `ruled-work`). What an edit does if a maker finds no row or no key can so be
--- asked: put in makers that do anything at all there, and see whether the edit is still the same.
-use Prim.Native.Nat.{ℕ, _+_, _≤_}
+-- The nine edits once more, with the making of a vertex, an edge and a face, and a face's exterior, left open: any four makers may stand in for
+-- rules 1, 4 and 5. With the rules' own makers they are the edits (kept/proofs/Makers, `ruled-work`). What an edit does if a maker finds no row
+-- or no key can so be asked: put in makers that do anything at all there, and see whether the edit is still the same. And what the code does,
+-- which searches lists before it links, is the edits with the makers `searching`.
+use Prim.Native.Nat.{ℕ, _+_, _≤_, _<_}
 use mathlib.Core.Path.{_≡_}
-use mathlib.Core.Bool.{cond}
+use mathlib.Core.Bool.{not, cond}
 use mathlib.Core.List.{List, [], _∷_, _++_, reverse}
 use lib.ListN.{length, getD}
-use lib.Dec.{eqb}
+use lib.Dec.{T, eqb}
 use Rattle.rules.specs.declared.Position.{Position}
 use Rattle.rules.specs.declared.Move.{Move}
 use Rattle.rules.specs.declared.Edit.{Edit}
 use Rattle.rules.specs.declared.Edit.the-variants.{VertexInsert, FaceInsert, FaceRemove, FaceSplit, FacePoke, FaceBridge, FaceExtrude, ArcBridge, ArcExtrude}
 use Rattle.rules.specs.declared.Answer.the-variants.{Key, Arc, Done}
-use Rattle.rules.specs.Table.{Table, freeRow, upTo, after}
-use Rattle.rules.specs.Mesh.{Mesh, source, dest, mark, keyAt, keyLimit, findArc, findVertex, findFace, vertexKind, edgeKind, faceKind, nextKey}
-use Rattle.rules.specs.Link.{ring, ringVertices, freeVertex, newVertex, newArc, newEdge}
+use Rattle.rules.specs.Table.{Table, there, freeRow, upTo, after}
+use Rattle.rules.specs.Mesh.{Mesh, source, dest, face, leading, opposite, mark, keyAt, keyLimit, findArc, findVertex, findFace, vertexKind, edgeKind, faceKind, nextKey}
+use Rattle.rules.specs.Link.{ring, ringVertices, turn, freeVertex, newVertex, newArc, newEdge}
 use Rattle.rules.specs.Step.{Step, step, andThen, answering, checked}
 use Rattle.rules.specs.Insert.{arcAt, insertChecks, newFace, interior, exterior, listsOf}
 use Rattle.rules.specs.Edit.{half, remove, removeWork, corners, arcBridgeChecks}
 use Rattle.rules.specs.Extrude.{Copies, movedPosition, wall}
 use Rattle.rules.specs.Call.{byKeys, arcByKeys}
+use Rattle.makers.specs.Search.{arcsOn, heldIn, soughtFor, exteriorSought}
 
--- a maker of vertices at a position, of edges between two vertices, of faces with their first arc and mark
+-- a maker of vertices at a position, of edges between two vertices, of faces with their first arc and mark; and of a perimeter's exterior, by
+-- the lists of an older mesh, where these arcs of it were soon to be held
 pub record Makers : Type 0 where
   pub vertex : Mesh → Position → Mesh
   pub edge : Mesh → ℕ → ℕ → Mesh
   pub face : Mesh → ℕ → ℕ → Mesh
+  pub outside : Mesh → List ℕ → List ℕ → Mesh → Mesh
 
--- those of the rules
+-- the exterior by the lists of an older mesh, as rule 5 has it, and by what was found in them while they were lists of the mesh
+abbrev pub byLists : Mesh → List ℕ → List ℕ → Mesh → Mesh
+byLists old soon per m = exterior per (listsOf old per) m
+
+abbrev pub bySearch : Mesh → List ℕ → List ℕ → Mesh → Mesh
+bySearch old soon per m = exteriorSought per (soughtFor old soon per) m
+
+-- those of the rules, and those of the code
 abbrev pub ruled : Makers
-ruled = record { vertex = newVertex; edge = newEdge; face = newFace }
+ruled = record { vertex = newVertex; edge = newEdge; face = newFace; outside = byLists }
+
+abbrev pub searching : Makers
+searching = record { vertex = newVertex; edge = newEdge; face = newFace; outside = bySearch }
 
 -- ---- room for one record
 
@@ -44,11 +58,21 @@ pub record EdgeRows (m : Mesh) (a b : ℕ) : Type 0 where
   pub forth : 1 ≤ freeRow (m .arcs)
   pub back : 1 ≤ freeRow (newArc m a b (freeRow (m .edges)) .arcs)
 
--- makers that do as the rules wherever there is a row and a key. Where there is none, they may do anything
+-- what was searched for in an older mesh tells of the mesh m: the perimeter's lists were lists of arcs that were there, each with its opposite,
+-- which is its opposite still; and the arcs that counted as held are those that have a face now
+pub record StillTells (old : Mesh) (soon per : List ℕ) (m : Mesh) : Type 0 where
+  pub leads-there : (i : ℕ) → i < length per → (leading old (getD per i 0) ≡ 0 → ⊥) → T (there (old .arcs) (leading old (getD per i 0)))
+  pub turns-there : (x : ℕ) → T (there (old .arcs) x) → (turn old x ≡ 0 → ⊥) → T (there (old .arcs) (turn old x))
+  pub opposites-there : (x : ℕ) → T (there (old .arcs) x) → T (there (old .arcs) (opposite old x))
+  pub opposites-stay : (x : ℕ) → T (there (old .arcs) x) → opposite m x ≡ opposite old x
+  pub held : (x : ℕ) → T (there (old .arcs) x) → heldIn (old .arcs) soon x ≡ not (eqb (face m x) 0)
+
+-- makers that do as the rules wherever there is a row and a key, and where what was searched for still tells. Elsewhere they may do anything
 pub record LikeRules (by : Makers) : Type 0 where
   pub vertex-same : (m : Mesh) (p : Position) → RowAndKey m (m .vertices) vertexKind → by .vertex m p ≡ newVertex m p
   pub edge-same : (m : Mesh) (a b : ℕ) → EdgeRows m a b → by .edge m a b ≡ newEdge m a b
   pub face-same : (m : Mesh) (x mark : ℕ) → RowAndKey m (m .faces) faceKind → by .face m x mark ≡ newFace m x mark
+  pub outside-same : (old : Mesh) (soon per : List ℕ) (m : Mesh) → StillTells old soon per m → by .outside old soon per m ≡ exterior per (listsOf old per) m
 
 -- ---- rules 4 and 5
 
@@ -58,14 +82,15 @@ getOrInsertEdgeBy by m a b = cond (eqb (findArc m a b) 0) (by .edge m a b) m
 unfoldable pub edgesUpToBy : Makers → List ℕ → ℕ → Mesh → Mesh
 edgesUpToBy by per k m = upTo (λ i a. getOrInsertEdgeBy by a (getD per i 0) (getD per (after (length per) i) 0)) k m
 
-unfoldable pub putFaceBy : Makers → Mesh → List ℕ → List (List ℕ) → ℕ → Mesh
-putFaceBy by m per lists mark =
+-- by the lists of an older mesh, where these arcs of it were soon to be held
+unfoldable pub putFaceBy : Makers → Mesh → List ℕ → Mesh → List ℕ → ℕ → Mesh
+putFaceBy by old soon m per mark =
     let m₁ = edgesUpToBy by per (length per) m in
     let f = freeRow (m₁ .faces) in
-    exterior per lists (interior per f (by .face m₁ (arcAt m₁ per 0) mark))
+    by .outside old soon per (interior per f (by .face m₁ (arcAt m₁ per 0) mark))
 
 unfoldable pub insertWorkBy : Makers → Mesh → List ℕ → ℕ → Step
-insertWorkBy by m per mark = step (putFaceBy by m per (listsOf m per) mark) (Key (nextKey m faceKind))
+insertWorkBy by m per mark = step (putFaceBy by m (arcsOn m per) m per mark) (Key (nextKey m faceKind))
 
 unfoldable pub insertFaceBy : Makers → Mesh → List ℕ → ℕ → Step
 insertFaceBy by m per mark = checked m (insertChecks m per per) (insertWorkBy by m per mark)
@@ -77,8 +102,8 @@ splitWorkBy by m f s d =
     let left = half m f s d in
     let right = half m f d s in
     let m₁ = remove m f in
-    let m₂ = putFaceBy by m₁ left (listsOf m₁ left) 0 in
-    let m₃ = putFaceBy by m₂ right (listsOf m₁ right) 0 in
+    let m₂ = putFaceBy by m₁ (arcsOn m₁ left) m₁ left 0 in
+    let m₃ = putFaceBy by m₁ (arcsOn m₁ right ++ arcsOn m₁ left) m₂ right 0 in
     checked m₁ (insertChecks m₁ left left)
     (checked m₁ (insertChecks m₁ right right)
     (step m₃ (Arc (keyAt (m .vertices) s) (keyAt (m .vertices) d))))
