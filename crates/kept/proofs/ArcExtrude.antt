@@ -27,7 +27,7 @@ use Rattle.proved.proofs.Around.{has-place, place-has}
 use Rattle.kept.specs.Frame.{AllButRings, ThreeCounters, Met, RoomForVertex, RoomForEdge, MadeEdge}
 use Rattle.kept.specs.Perimeter.{corner}
 use Rattle.kept.specs.Reaches.{KeepsEnds}
-use Rattle.kept.specs.Makers.{Makers, ruled, LikeRules, insertWorkBy, getOrInsertEdgeBy, arcBridgeBy, arcBridgeWorkBy, arcExtrudeWorkBy}
+use Rattle.makers.specs.Makers.{Makers, ruled, LikeRules, insertWorkBy, getOrInsertEdgeBy, arcBridgeBy, arcBridgeWorkBy, arcExtrudeWorkBy}
 use Rattle.kept.specs.Suffices.{Tally, Within}
 use Rattle.kept.specs.Local.{Local, FacesSince}
 use Rattle.kept.proofs.Base.{but-rings}

@@ -25,7 +25,7 @@ use Rattle.proved.proofs.Ring.{ring-counts, ring-from}
 use Rattle.kept.specs.Frame.{ThreeCounters, Met}
 use Rattle.kept.specs.Perimeter.{corner, following}
 use Rattle.kept.specs.Reaches.{KeepsEnds}
-use Rattle.kept.specs.Makers.{Makers, ruled, LikeRules, insertWorkBy, arcBridgeWorkBy, arcBridgeBy, bridgeWorkBy}
+use Rattle.makers.specs.Makers.{Makers, ruled, LikeRules, insertWorkBy, arcBridgeWorkBy, arcBridgeBy, bridgeWorkBy}
 use Rattle.kept.specs.Suffices.{Tally}
 use Rattle.kept.specs.Local.{Local, FacesSince}
 use Rattle.kept.proofs.Base.{but-rings}

@@ -28,7 +28,7 @@ use Rattle.proved.proofs.Ring.{ring-counts, ring-from}
 use Rattle.kept.specs.Frame.{ThreeCounters, Met, RoomForVertex}
 use Rattle.kept.specs.Perimeter.{Perimeter, corner, following}
 use Rattle.kept.specs.Reaches.{KeepsEnds}
-use Rattle.kept.specs.Makers.{Makers, ruled, LikeRules, insertWorkBy, insertFaceBy, copyOneBy, copiesBy, extrudeWorkBy}
+use Rattle.makers.specs.Makers.{Makers, ruled, LikeRules, insertWorkBy, insertFaceBy, copyOneBy, copiesBy, extrudeWorkBy}
 use Rattle.kept.specs.Suffices.{Tally, Within}
 use Rattle.kept.specs.Local.{Local, FacesSince}
 use Rattle.kept.proofs.Base.{but-rings}

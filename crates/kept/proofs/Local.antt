@@ -24,7 +24,7 @@ use Rattle.proved.proofs.Around.{place-has}
 use Rattle.kept.specs.Frame.{AllButRings, ThreeCounters, Met, RoomForVertex, RoomForEdge, MadeEdge}
 use Rattle.kept.specs.Perimeter.{Perimeter}
 use Rattle.kept.specs.Reaches.{KeepsEnds, Spared}
-use Rattle.kept.specs.Makers.{ruled, insertWorkBy}
+use Rattle.makers.specs.Makers.{ruled, insertWorkBy}
 use Rattle.kept.specs.Local.{among, Local, GainsNothing, Came, FacesSince, Reach}
 use Rattle.kept.proofs.Rings.{previous-holds}
 use Rattle.kept.proofs.Spared.{spared-none, spared-onto, stays-spared}

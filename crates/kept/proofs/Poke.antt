@@ -25,7 +25,7 @@ use Rattle.proved.proofs.Clauses.{facts}
 use Rattle.kept.specs.Frame.{ThreeCounters, Met, RoomForVertex}
 use Rattle.kept.specs.Perimeter.{corner, following}
 use Rattle.kept.specs.Reaches.{KeepsEnds, Spared, SameRing}
-use Rattle.kept.specs.Makers.{Makers, ruled, LikeRules, insertFaceBy, pokeWorkBy}
+use Rattle.makers.specs.Makers.{Makers, ruled, LikeRules, insertFaceBy, pokeWorkBy}
 use Rattle.kept.specs.Suffices.{Tally}
 use Rattle.kept.specs.Local.{Local, FacesSince}
 use Rattle.kept.proofs.Base.{but-rings}

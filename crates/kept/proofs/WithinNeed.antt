@@ -11,7 +11,7 @@ use Rattle.rules.specs.Insert.{insertWork}
 use Rattle.rules.specs.Call.{Need, need, insertNeed, pairsWithout, work}
 use Rattle.kept.specs.Frame.{AllButRings, ThreeCounters, Met}
 use Rattle.kept.specs.Perimeter.{Perimeter}
-use Rattle.kept.specs.Makers.{Makers, ruled, LikeRules, insertWorkBy, workBy}
+use Rattle.makers.specs.Makers.{Makers, ruled, LikeRules, insertWorkBy, workBy}
 use Rattle.kept.specs.Suffices.{Tally, Within, removedBy, Suffices}
 use Rattle.kept.proofs.Makers.{ruled-like}
 use Rattle.kept.proofs.Tallies.{tally-onto}
