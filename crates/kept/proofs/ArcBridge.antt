@@ -20,7 +20,7 @@ use Rattle.rules.specs.Call.{insertNeed, pairsWithout}
 use Rattle.proved.specs.Facts.{IsVertex, IsArc}
 use Rattle.kept.specs.Frame.{AllButRings, ThreeCounters, Met}
 use Rattle.kept.specs.Perimeter.{Perimeter, corner}
-use Rattle.kept.specs.Makers.{Makers, LikeRules, arcBridgeWorkBy}
+use Rattle.makers.specs.Makers.{Makers, LikeRules, arcBridgeWorkBy}
 use Rattle.kept.proofs.Passed.{Passed, passed, places-apart}
 use Rattle.kept.proofs.EdgesIn.{needAt}
 use Rattle.kept.proofs.Pairs.{at-most-one, has-arc, two-needed}

@@ -21,10 +21,10 @@ use Rattle.rules.specs.Script.{emptyMesh}
 use Rattle.rules.proofs.Promises.{refused-nothing}
 use Rattle.proved.specs.Demand.{Made, afterCall, afterCalls, reached}
 use Rattle.kept.specs.Frame.{ThreeCounters}
-use Rattle.kept.specs.Makers.{ruled}
+use Rattle.makers.specs.Makers.{ruled}
 use Rattle.kept.specs.Exactly.{answer}
 use Rattle.kept.specs.Counters.{CountersRise}
-use Rattle.kept.proofs.Makers.{ruled-work}
+use Rattle.makers.proofs.Ruled.{ruled-work}
 use Rattle.kept.proofs.Eight.{Accepted, answer-zero}
 use Rattle.kept.proofs.Steps.{KeptBySteps, work-keeps}
 
@@ -79,6 +79,7 @@ steps-rise =
       link = λ m x y. same-counters refl;
       set-face = λ m x f. same-counters refl;
       drop = λ m f. same-counters refl;
+      outside = λ old soon per m. refl;
     }
 
 work-rises : (m : Mesh) (e : Edit) (keys : List ℕ) → CountersRise m (work m e keys .tables)

@@ -1,22 +1,26 @@
 -- Any accepted face insert whose need is met, into a mesh of which every clause of Sound holds but perhaps that on rings, as in the middle of
 -- an edit: these clauses are kept, and the new face has a sound ring. So answer 8 means that a face that was there lost its ring.
-use Prim.Native.Nat.{ℕ}
+use Prim.Native.Nat.{ℕ, _<_}
+use native.Mathlib.Omega.{arith}
 use mathlib.Core.Path.{_≡_, refl, ap, sym, subst, _∙_}
 use mathlib.Core.List.{List, []}
 use mathlib.Core.Logic.{_⊎_, inl, inr}
 use lib.ListN.{length}
 use lib.Dec.{T}
 use Rattle.rules.specs.Table.{Table, there, freeRow}
-use Rattle.rules.specs.Mesh.{Mesh, mesh, faceKind, counted}
+use Rattle.rules.specs.Mesh.{Mesh, mesh, source, dest, faceKind, counted}
 use Rattle.rules.specs.Insert.{arcAt, edgesIn, newFace, interior, exterior, putFace}
 use Rattle.rules.specs.Call.{insertNeed}
-use Rattle.proved.specs.Facts.{SoundFacts, RingFacts, IsFace}
+use Rattle.proved.proofs.Rows.{in-table}
+use Rattle.proved.specs.Facts.{SoundFacts, RingFacts, IsFace, IsArc}
 use Rattle.kept.specs.Frame.{AllButRings, Took, ThreeCounters, Met, RoomForFace, Linked}
-use Rattle.kept.specs.Perimeter.{ListsLeave, Perimeter, corner, Inside, Inserted, Outside, Reached}
+use Rattle.kept.specs.Perimeter.{ListsLeave, Perimeter, corner, following, Inside, Inserted, Outside, Reached}
 use Rattle.kept.proofs.Free.{there-cases}
 use Rattle.kept.proofs.Links.{OtherFaces, relinked-kept, relinked-sound}
-use Rattle.kept.proofs.EdgesIn.{EdgesUpTo, edges-in, grown-vertex}
-use Rattle.kept.proofs.Interior.{Joined, inside}
+use Rattle.kept.proofs.EdgesIn.{EdgesUpTo, edges-in, grown-vertex, grown-arc}
+use Rattle.kept.proofs.Find.{arc-back}
+use Rattle.kept.proofs.Opposite.{found-is}
+use Rattle.kept.proofs.Interior.{Joined, pair-arc, inside}
 use Rattle.kept.proofs.Exterior.{inserted}
 use Rattle.kept.proofs.Lists.{lists-stay}
 use Rattle.kept.proofs.Reach.{reach}
@@ -87,6 +91,23 @@ module _ (m : Mesh) (s : AllButRings m) (per : List ℕ) (p : Perimeter m per) (
 
   pub room-up : RoomForFace withEdges
   room-up = face-room m withEdges per k w (edges-up .grown)
+
+  -- an arc of the perimeter that was there was the pair's arc then
+  pub edges-pair-before : (x i : ℕ) → IsArc m x → i < length per → x ≡ arcAt withEdges per i → arcAt m per i ≡ x
+  unfolding arcAt
+  edges-pair-before x i u l e =
+      let g = edges-up .grown in
+      let j = pair-arc withEdges (edges-up .base) per perimeter-up (edges-up .joined) i l in
+      found-is m s (corner per i) (following per i) x (record { exists = u; leaves = sym (g .arcs-stay x 0 u) ∙ ap (source withEdges) e ∙ j .leaves; arrives = sym (g .arcs-stay x 1 u) ∙ ap (dest withEdges) e ∙ j .arrives })
+
+  -- and the pair's arc, where there was one, is it still
+  pub edges-pair-after : (x i : ℕ) → IsArc m x → i < length per → x ≡ arcAt m per i → arcAt withEdges per i ≡ x
+  unfolding arcAt
+  edges-pair-after x i u l e =
+      let g = edges-up .grown in
+      let b = arc-back (m .arcs) (corner per i) (following per i) (λ z. let t = in-table (m .arcs) x u in omega arith) in
+      found-is withEdges (edges-up .base) (corner per i) (following per i) x
+      (record { exists = grown-arc g x u; leaves = g .arcs-stay x 0 u ∙ ap (source m) e ∙ b .leaves; arrives = g .arcs-stay x 1 u ∙ ap (dest m) e ∙ b .arrives })
 
   module _ (lists : List (List ℕ)) (leave : ListsLeave m per lists) (mark : ℕ) where
     abbrev pub resultUp : Table → Mesh

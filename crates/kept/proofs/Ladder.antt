@@ -21,7 +21,7 @@ use Rattle.proved.proofs.Around.{has-place}
 use Rattle.kept.specs.Frame.{AllButRings, ThreeCounters, Met}
 use Rattle.kept.specs.Perimeter.{Perimeter, corner, following}
 use Rattle.kept.specs.Reaches.{KeepsEnds, Spared}
-use Rattle.kept.specs.Makers.{Makers, LikeRules, insertWorkBy}
+use Rattle.makers.specs.Makers.{Makers, LikeRules, insertWorkBy}
 use Rattle.kept.specs.Suffices.{Tally}
 use Rattle.kept.specs.Local.{Local, FacesSince}
 use Rattle.kept.proofs.Round.{after-on, after-last}

@@ -19,10 +19,12 @@ pub mod Opposite
 pub mod Interior
 pub mod Exterior
 pub mod Lists
+pub mod Searching
 pub mod Reach
 pub mod NewRing
 pub mod Face
 pub mod Insert
+pub mod Tells
 pub mod Passed
 pub mod Reaches
 pub mod Stretch

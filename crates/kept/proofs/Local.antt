@@ -24,7 +24,7 @@ use Rattle.proved.proofs.Around.{place-has}
 use Rattle.kept.specs.Frame.{AllButRings, ThreeCounters, Met, RoomForVertex, RoomForEdge, MadeEdge}
 use Rattle.kept.specs.Perimeter.{Perimeter}
 use Rattle.kept.specs.Reaches.{KeepsEnds, Spared}
-use Rattle.kept.specs.Makers.{ruled, insertWorkBy}
+use Rattle.makers.specs.Makers.{ruled, insertWorkBy}
 use Rattle.kept.specs.Local.{among, Local, GainsNothing, Came, FacesSince, Reach}
 use Rattle.kept.proofs.Rings.{previous-holds}
 use Rattle.kept.proofs.Spared.{spared-none, spared-onto, stays-spared}
@@ -34,7 +34,7 @@ use Rattle.kept.proofs.Edge.{made-old-cell, made-ring}
 use Rattle.kept.proofs.Vertex.{vertex-rest, vertex-ring, vertex-ends}
 use Rattle.kept.proofs.Remove.{Cleared, removed, holder-place, remove-spares, remove-ends, remove-was}
 use Rattle.kept.proofs.Reaches.{not-on}
-use Rattle.kept.proofs.Makers.{ruled-like}
+use Rattle.makers.proofs.Ruled.{ruled-like}
 use Rattle.kept.proofs.Along.{Along, along-so}
 use Rattle.kept.proofs.Put.{Put, along-insert}
 

@@ -1,5 +1,5 @@
--- The edits by any makers: with the rules' own they are the edits. And where there is room for one record, makers that are like the rules make
--- the same; so an insert whose need is met is the same by them, for any perimeter, in mid-edit too.
+-- The edits by any makers: where there is room for one record, makers that are like the rules make the same; so an insert whose need is met is the
+-- same by them, for any perimeter, in mid-edit too.
 use Prim.Native.Nat.{ℕ, zero, suc, _≤_}
 use native.Mathlib.Omega.{arith}
 use native.Mathlib.Decide.{ℕ-discrete}
@@ -17,7 +17,7 @@ use Rattle.rules.specs.Table.{freeRow, upTo}
 use Rattle.rules.specs.Mesh.{Mesh, findArc, faceKind, nextKey}
 use Rattle.rules.specs.Link.{newVertex, newEdge, getOrInsertEdge}
 use Rattle.rules.specs.Step.{step}
-use Rattle.rules.specs.Insert.{arcAt, edgesIn, interior, exterior, listsOf, newFace, putFace, insertWork, insertFace}
+use Rattle.rules.specs.Insert.{arcAt, edgesIn, interior, listsOf, newFace, putFace, insertWork, insertFace}
 use Rattle.rules.specs.Edit.{arcBridge, arcBridgeWork, splitWork, pokeWork, bridgeWork}
 use Rattle.rules.specs.Extrude.{copyOne, copies, extrudeWork, arcExtrudeWork}
 use Rattle.rules.specs.Call.{insertNeed, work}
@@ -25,28 +25,14 @@ use Rattle.proved.specs.Facts.{SoundFacts}
 use Rattle.kept.specs.Frame.{AllButRings, ThreeCounters, Met, RoomForVertex, RoomForEdge, RoomForFace}
 use Rattle.kept.specs.Perimeter.{Perimeter, corner, following}
 use Rattle.kept.specs.Said.{edgesUpTo}
-use Rattle.kept.specs.Makers.{Makers, ruled, LikeRules, EdgeRows, getOrInsertEdgeBy, edgesUpToBy, putFaceBy, insertWorkBy, insertFaceBy, splitWorkBy, pokeWorkBy, arcBridgeWorkBy, arcBridgeBy, bridgeWorkBy, copyOneBy, copiesBy, extrudeWorkBy, arcExtrudeWorkBy, workBy}
+use Rattle.makers.specs.Search.{arcsOn}
+use Rattle.makers.specs.Makers.{Makers, ruled, LikeRules, EdgeRows, getOrInsertEdgeBy, edgesUpToBy, putFaceBy, insertWorkBy, insertFaceBy, splitWorkBy, pokeWorkBy, arcBridgeWorkBy, arcBridgeBy, bridgeWorkBy, copyOneBy, copiesBy, extrudeWorkBy, arcExtrudeWorkBy, workBy}
 use Rattle.kept.proofs.Free.{free-some}
 use Rattle.kept.proofs.Edge.{back-finds}
 use Rattle.kept.proofs.EdgesIn.{edges-said, each-edge-finds-room, edges-up-to}
 use Rattle.kept.proofs.Face.{edges-room}
 use Rattle.kept.proofs.Insert.{withEdges, edges-up, room-up}
-
--- by the rules' makers an edit is the edit
-pub ruled-work : (m : Mesh) (e : Edit) (keys : List ℕ) → workBy ruled m e keys ≡ work m e keys
-unfolding workBy work getOrInsertEdgeBy getOrInsertEdge edgesUpToBy edgesIn putFaceBy putFace insertWorkBy insertWork insertFaceBy insertFace splitWorkBy splitWork pokeWorkBy pokeWork arcBridgeWorkBy arcBridgeWork arcBridgeBy arcBridge bridgeWorkBy bridgeWork copyOneBy copyOne copiesBy copies extrudeWorkBy extrudeWork arcExtrudeWorkBy arcExtrudeWork
-ruled-work m (VertexInsert p) keys = refl
-ruled-work m (FaceInsert mark) keys = refl
-ruled-work m (FaceRemove f) keys = refl
-ruled-work m (FaceSplit f s d) keys = refl
-ruled-work m (FacePoke f p) keys = refl
-ruled-work m (FaceBridge f g) keys = refl
-ruled-work m (FaceExtrude f move) keys = refl
-ruled-work m (ArcBridge a b c d) keys = refl
-ruled-work m (ArcExtrude s d move) keys = refl
-
-pub ruled-like : LikeRules ruled
-ruled-like = record { vertex-same = λ m p r. refl; edge-same = λ m a b r. refl; face-same = λ m x mark r. refl }
+use Rattle.kept.proofs.Tells.{SearchedIn, searched-here, still-tells}
 
 module _ (by : Makers) (like : LikeRules by) where
   pub vertex-by : (m : Mesh) → SoundFacts m → (p : Position) → RoomForVertex m → by .vertex m p ≡ newVertex m p
@@ -82,15 +68,17 @@ module _ (by : Makers) (like : LikeRules by) where
         ap (λ (a : Mesh). getOrInsertEdgeBy by a (corner per c) (following per c)) (edges-by c (omega arith))
         ∙ edge-by (edgesUpTo per c m) (edges-up-to m per p (edges-room m per k w) s c (omega arith) .base) (corner per c) (following per c) (each-edge-finds-room m per p (edges-room m per k w) s c l)
 
-    pub put-face-by : (lists : List (List ℕ)) (mark : ℕ) → putFaceBy by m per lists mark ≡ putFace m per lists mark
+    -- by lists that were searched before, where what was found still tells
+    pub put-face-by : (old : Mesh) (soon : List ℕ) → SearchedIn old soon per m → (mark : ℕ) → putFaceBy by old soon m per mark ≡ putFace m per (listsOf old per) mark
     unfolding putFaceBy putFace
-    put-face-by lists mark =
+    put-face-by old soon q mark =
         ap rest (edges-by (length per) (omega arith) ∙ sym (edges-said per m))
-        ∙ ap (λ (a : Mesh). exterior per lists (interior per (freeRow (withEdges m s per p k w .faces)) a)) (face-by (withEdges m s per p k w) (edges-up m s per p k w .base) (arcAt (withEdges m s per p k w) per 0) mark (room-up m s per p k w))
+        ∙ ap (λ (a : Mesh). by .outside old soon per (interior per (freeRow (withEdges m s per p k w .faces)) a)) (face-by (withEdges m s per p k w) (edges-up m s per p k w .base) (arcAt (withEdges m s per p k w) per 0) mark (room-up m s per p k w))
+        ∙ like .outside-same old soon per _ (still-tells m s per p k w mark old soon q)
       where
         rest : Mesh → Mesh
-        rest a = exterior per lists (interior per (freeRow (a .faces)) (by .face a (arcAt a per 0) mark))
+        rest a = by .outside old soon per (interior per (freeRow (a .faces)) (by .face a (arcAt a per 0) mark))
 
     pub insert-by : (mark : ℕ) → insertWorkBy by m per mark ≡ insertWork m per mark
     unfolding insertWorkBy insertWork
-    insert-by mark = ap (λ (a : Mesh). step a (Key (nextKey m faceKind))) (put-face-by (listsOf m per) mark)
+    insert-by mark = ap (λ (a : Mesh). step a (Key (nextKey m faceKind))) (put-face-by m (arcsOn m per) (searched-here m s per p) mark)

@@ -24,7 +24,7 @@ use Rattle.rules.specs.Sound.{sound}
 use Rattle.rules.specs.Call.{needs, given, byKeys, arcByKeys, checks, movesFinite, insertNeed, need, roomFor, work, call, called}
 use Rattle.proved.proofs.Clauses.{facts}
 use Rattle.kept.specs.Frame.{ThreeCounters}
-use Rattle.kept.specs.Makers.{workBy}
+use Rattle.makers.specs.Makers.{workBy}
 use Rattle.kept.specs.Suffices.{Tally, removedBy, Suffices}
 use Rattle.kept.proofs.Base.{but-rings}
 use Rattle.kept.proofs.Counted.{met}

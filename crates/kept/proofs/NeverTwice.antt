@@ -19,7 +19,7 @@ use Rattle.rules.specs.Insert.{newFace}
 use Rattle.proved.specs.Demand.{Made, afterCall, afterCalls, reached}
 use Rattle.proved.proofs.Rows.{differ}
 use Rattle.kept.specs.Frame.{ThreeCounters}
-use Rattle.kept.specs.Makers.{Makers, LikeRules}
+use Rattle.makers.specs.Makers.{Makers, byLists, LikeRules}
 use Rattle.kept.specs.Counters.{InUse, OldOrNew, OldOrCounted, KeysCounted, StaysOut, NeverAgain}
 use Rattle.kept.proofs.Cells.{cell-within, putRow-here, putRow-other, putRow-rows, put-other-cell}
 use Rattle.kept.proofs.Counted.{key-back}
@@ -75,6 +75,7 @@ careful =
       vertex = λ m p. cond (keyLeft m vertexKind) (newVertex m p) m;
       edge = λ m a b. cond (keyLeft m edgeKind) (newEdge m a b) m;
       face = λ m x mark. cond (keyLeft m faceKind) (newFace m x mark) m;
+      outside = byLists;
     }
 
 pub careful-like : LikeRules careful
@@ -83,6 +84,7 @@ careful-like =
       vertex-same = λ m p r. rw (le-leb (nextKey m vertexKind + 1) keyLimit (r .a-key));
       edge-same = λ m a b r. rw (le-leb (nextKey m edgeKind + 1) keyLimit (r .itself .a-key));
       face-same = λ m x mark r. rw (le-leb (nextKey m faceKind + 1) keyLimit (r .a-key));
+      outside-same = λ old soon per m t. refl;
     }
 
 -- ---- each step
@@ -156,6 +158,7 @@ steps-counted =
       link = λ m x y. record { counters = same-counters refl; vertices = old (λ k i. i); edges = old (λ k i. i); faces = old (λ k i. i) };
       set-face = λ m x f. record { counters = same-counters refl; vertices = old (λ k i. i); edges = old (λ k i. i); faces = old (λ k i. i) };
       drop = λ m f. record { counters = same-counters refl; vertices = old (λ k i. i); edges = old (λ k i. i); faces = old (dropped-keys (m .faces) f) };
+      outside = λ old soon per m. refl;
     }
 
 -- ---- calls

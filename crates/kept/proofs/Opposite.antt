@@ -15,6 +15,7 @@ use Rattle.proved.specs.Facts.{IsArc, BothArcs}
 use Rattle.proved.proofs.Rows.{cell-row}
 use Rattle.proved.proofs.Edges.{two-arcs}
 use Rattle.kept.proofs.Base.{edges-of}
+use Rattle.kept.proofs.Find.{Between, arc-back, arc-some}
 use Rattle.kept.specs.Frame.{AllButRings, SameEnds}
 
 -- ---- the first row that passes, in two tables whose rows pass alike
@@ -64,3 +65,12 @@ opposite-is m s x u = go (s .edge-names x u)
         rw (eq-eqb (edgeArc m e) x q) (record { exists = b .second-exists; leaves = sym (b .ends-where-leaves) ∙ ap (dest m) q; arrives = sym (b .leaves-where-ends) ∙ ap (source m) q })
     go (inr q) =
         rw (ne-eqb (edgeArc m e) x (λ z. two-arcs m (edges-of m s) e (s .edge-exists x u) (z ∙ sym q))) (record { exists = b .first-exists; leaves = b .leaves-where-ends ∙ ap (dest m) q; arrives = b .ends-where-leaves ∙ ap (source m) q })
+
+-- ---- the arc between two vertices
+
+-- there is one at most, so any is the one that is found
+pub found-is : (m : Mesh) → AllButRings m → (a b x : ℕ) → Between (m .arcs) a b x → findArc m a b ≡ x
+found-is m s a b x h =
+    let some = arc-some (m .arcs) a b (omega (arith, s .sizes .arc-rows, s .sizes .edge-rows)) x h in
+    let back = arc-back (m .arcs) a b some in
+    s .pairs-differ (findArc m a b) x (back .exists) (h .exists) (back .leaves ∙ sym (h .leaves)) (back .arrives ∙ sym (h .arrives))

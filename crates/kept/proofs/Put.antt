@@ -6,20 +6,20 @@ use mathlib.Core.Logic.{_⊎_}
 use lib.ListN.{length}
 use lib.Dec.{T}
 use Rattle.rules.specs.Table.{has, freeRow}
-use Rattle.rules.specs.Mesh.{Mesh, keyAt, faceKind, nextKey}
-use Rattle.rules.specs.Insert.{listsOf, putFace, insertWork}
+use Rattle.rules.specs.Mesh.{Mesh, face, keyAt, faceKind, nextKey}
+use Rattle.rules.specs.Insert.{arcAt, listsOf, putFace, insertWork}
 use Rattle.rules.specs.Call.{insertNeed, pairsWithout}
-use Rattle.proved.specs.Facts.{RingFacts, IsFace}
+use Rattle.proved.specs.Facts.{RingFacts, IsFace, IsArc}
 use Rattle.kept.specs.Frame.{AllButRings, ThreeCounters, Met}
 use Rattle.kept.specs.Perimeter.{Perimeter, corner, following, ListsLeave}
 use Rattle.kept.specs.Reaches.{KeepsEnds, Spared}
 use Rattle.kept.specs.Local.{Local, GainsNothing}
-use Rattle.kept.specs.Makers.{Makers, LikeRules, insertWorkBy}
+use Rattle.makers.specs.Makers.{Makers, LikeRules, insertWorkBy}
 use Rattle.kept.specs.Suffices.{Tally}
 use Rattle.kept.proofs.Find.{Between}
 use Rattle.kept.proofs.Lists.{lists-leave}
 use Rattle.kept.proofs.Insert.{insert-kept}
-use Rattle.kept.proofs.Reaches.{NotOn, insert-ends, insert-joined, insert-makes, insert-spares, insert-local, insert-gains, insert-cases, insert-new-ring, insert-new-key}
+use Rattle.kept.proofs.Reaches.{NotOn, insert-ends, insert-joined, insert-makes, insert-spares, insert-local, insert-gains, insert-cases, insert-new-ring, insert-new-key, insert-holds, insert-faces-stay}
 use Rattle.kept.proofs.Makers.{insert-by}
 use Rattle.kept.proofs.Tallies.{tally-insert}
 use Rattle.kept.proofs.Along.{Along}
@@ -38,6 +38,9 @@ pub record Put (m r : Mesh) (per : List ℕ) : Type 0 where
   pub face-cases : (g : ℕ) → IsFace r g → (g ≡ new) ⊎ IsFace m g
   pub new-ring : RingFacts r new
   pub new-key : keyAt (r .faces) new ≡ nextKey m faceKind
+  -- the perimeter's arcs have a face, and every other arc keeps its own
+  pub holds : (x i : ℕ) → IsArc m x → i < length per → x ≡ arcAt m per i → face r x ≡ 0 → ⊥
+  pub faces-stay : (x : ℕ) → IsArc m x → ((i : ℕ) → i < length per → x ≡ arcAt m per i → ⊥) → face r x ≡ face m x
 
 module _ (m : Mesh) (s : AllButRings m) (per : List ℕ) (p : Perimeter m per) (k : ThreeCounters m) (w : Met m (insertNeed m per)) where
   pub put-in : (lists : List (List ℕ)) → ListsLeave m per lists → (mark : ℕ) → Put m (putFace m per lists mark) per
@@ -54,6 +57,8 @@ module _ (m : Mesh) (s : AllButRings m) (per : List ℕ) (p : Perimeter m per) (
         face-cases = insert-cases m s per p k w lists leave mark;
         new-ring = insert-new-ring m s per p k w lists leave mark;
         new-key = insert-new-key m s per p k w lists leave mark;
+        holds = insert-holds m s per p k w lists leave mark;
+        faces-stay = insert-faces-stay m s per p k w lists leave mark;
       }
 
   pub along-insert : {P Q : Mesh → Type 0} (by : Makers) → LikeRules by → (mark : ℕ) → ((r : Mesh) → Put m r per → P r) → ((r : Mesh) → P r → Q r) → Along P Q (insertWork m per mark) (insertWorkBy by m per mark)

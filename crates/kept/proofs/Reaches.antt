@@ -31,7 +31,7 @@ use Rattle.proved.proofs.Rows.{true-T, in-table}
 use Rattle.kept.proofs.Find.{Between, arc-back, arc-some}
 use Rattle.kept.proofs.EdgesIn.{EdgesUpTo, needAt, on-place, grown-vertex, grown-new-edge}
 use Rattle.kept.proofs.Interior.{pair-arc, pair-found}
-use Rattle.kept.proofs.Insert.{faces-took, insert-whole, insert-ring, withEdges, edges-up, perimeter-up, room-up, resultUp, Leaves, leaves, all-but-rings}
+use Rattle.kept.proofs.Insert.{faces-took, insert-whole, insert-ring, withEdges, edges-up, perimeter-up, room-up, resultUp, Leaves, leaves, all-but-rings, edges-pair-before, edges-pair-after}
 use Rattle.kept.proofs.Lists.{lists-leave}
 use Rattle.kept.proofs.Passed.{passed, pair-faceless, keys-perimeter}
 use Rattle.kept.proofs.Eight.{answer-zero, never-8}
@@ -99,15 +99,7 @@ module _ (m : Mesh) (s : AllButRings m) (per : List ℕ) (p : Perimeter m per) (
 
   -- an arc of the perimeter that was there was the pair's arc then
   pair-before : (x i : ℕ) → IsArc m x → i < length per → x ≡ arcAt m₁ per i → arcAt m per i ≡ x
-  unfolding arcAt
-  pair-before x i u l e =
-      let a = corner per i in
-      let b = following per i in
-      let j = joins i l in
-      let here : Between (m .arcs) a b x = record { exists = u; leaves = sym (old x 0 u) ∙ ap (source m₁) e ∙ j .leaves; arrives = sym (old x 1 u) ∙ ap (dest m₁) e ∙ j .arrives } in
-      let some = arc-some (m .arcs) a b (omega (arith, s .sizes .arc-rows, s .sizes .edge-rows)) x here in
-      let there = arc-back (m .arcs) a b some in
-      s .pairs-differ (arcAt m per i) x (there .exists) u (there .leaves ∙ sym (here .leaves)) (there .arrives ∙ sym (here .arrives))
+  pair-before = edges-pair-before m s per p k w
 
   -- a face now is a face after the interior
   face-inside : (y : ℕ) → face r y ≡ cell t₀ y 4
@@ -284,6 +276,17 @@ module _ (m : Mesh) (s : AllButRings m) (per : List ℕ) (p : Perimeter m per) (
       ∙ ap (λ (z : ℕ). z - 1) (took .row 0)
       ∙ key-back (nextKey m₁ faceKind) (room-up m s per p k w .a-key)
       ∙ up .grown .face-counter
+
+  -- the perimeter's arcs hold it, and every other arc keeps its face
+  pub insert-holds : (x i : ℕ) → IsArc m x → i < length per → x ≡ arcAt m per i → face (putFace m per lists mark) x ≡ 0 → ⊥
+  insert-holds x i u l e z =
+      let h = ap (λ (y : ℕ). face r y) (sym (edges-pair-after m s per p k w x i u l e)) ∙ whole .face-on i l in
+      let q = ap (λ (n : Mesh). face n x) (sym (made .is)) ∙ z in
+      omega (arith, took .some)
+
+  pub insert-faces-stay : (x : ℕ) → IsArc m x → ((i : ℕ) → i < length per → x ≡ arcAt m per i → ⊥) → face (putFace m per lists mark) x ≡ face m x
+  insert-faces-stay x u off =
+      ap (λ (n : Mesh). face n x) (made .is) ∙ whole .faces-stay x (λ i l e. off i l (sym (pair-before x i u l e))) ∙ old x 4 u
 
   -- an insert whose result is sound reaches no further
   pub insert-reaches : T (not (conflict m per)) → SoundFacts (putFace m per lists mark) → InsertReaches m (putFace m per lists mark) per (freeRow (m .faces)) mark

@@ -24,7 +24,7 @@ use Rattle.proved.proofs.Around.{has-place}
 use Rattle.proved.proofs.Clauses.{facts}
 use Rattle.kept.specs.Frame.{ThreeCounters}
 use Rattle.kept.specs.Reaches.{KeepsEnds, KeepsKeyAndPosition, SameRing}
-use Rattle.kept.specs.Makers.{ruled}
+use Rattle.makers.specs.Makers.{ruled}
 use Rattle.kept.specs.Local.{FacesSince}
 use Rattle.kept.specs.Unreached.{KeepsArc, KeepsFace, KeepsRing}
 use Rattle.kept.proofs.Cells.{putRow-rows, putRow-other, row-other, put-other-cell}
@@ -32,7 +32,7 @@ use Rattle.kept.proofs.Free.{free-differs}
 use Rattle.kept.proofs.Rings.{first-holds, ring-same}
 use Rattle.kept.proofs.Remove.{ring-place-holds}
 use Rattle.kept.proofs.Eight.{Accepted}
-use Rattle.kept.proofs.Makers.{ruled-work}
+use Rattle.makers.proofs.Ruled.{ruled-work}
 use Rattle.kept.proofs.Steps.{KeptBySteps, work-keeps}
 use Rattle.kept.proofs.EditReach.{edit-reach}
 
@@ -77,6 +77,7 @@ by-steps =
       link = λ m x y v u. vertex-kept v u refl refl;
       set-face = λ m x f v u. vertex-kept v u refl refl;
       drop = λ m f v u. vertex-kept v u refl refl;
+      outside = λ old soon per m. refl;
     }
 
 -- whether it is accepted or refused on the way

@@ -17,7 +17,7 @@ use Rattle.proved.specs.Facts.{SoundFacts, IsFace}
 use Rattle.proved.specs.Demand.{Made, afterCall, afterCalls}
 use Rattle.proved.proofs.Clauses.{facts}
 use Rattle.kept.specs.Frame.{ThreeCounters}
-use Rattle.kept.specs.Makers.{workBy}
+use Rattle.makers.specs.Makers.{workBy}
 use Rattle.kept.specs.Exactly.{answer}
 use Rattle.kept.specs.Counters.{InUse, OldOrNew, KeysCounted, Gone, Removes, by-remove, by-split, by-poke, by-bridge, by-bridge-to, by-extrude}
 use Rattle.kept.proofs.Cells.{putRow-other}

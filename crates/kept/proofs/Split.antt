@@ -5,7 +5,8 @@ use native.Mathlib.Omega.{arith}
 use native.Mathlib.Decide.{ℕ-discrete}
 use mathlib.Core.Path.{_≡_, refl, ap, sym, subst, _∙_}
 use mathlib.Core.Bool.{Bool, true, false, not, _||_, cond}
-use mathlib.Core.List.{List, []}
+use mathlib.Core.List.{List, [], _++_}
+use mathlib.Core.Logic.{inl, inr}
 use lib.ListN.{length, getD}
 use lib.Dec.{T, eqb, eqb→eq, ltb}
 use borrow.Author.Tests.{ne-eqb, eq-eqb}
@@ -14,7 +15,7 @@ use Rattle.rules.specs.declared.Answer.the-variants.{Done, Refused}
 use Rattle.rules.specs.declared.Refusal.the-variants.{TopologyNotFound, TopologyMalformed, TopologyConflict}
 use Rattle.rules.specs.declared.Edit.the-variants.{FaceSplit}
 use Rattle.rules.specs.Table.{firstRow, has}
-use Rattle.rules.specs.Mesh.{Mesh, Room, findArc, findVertex, findFace}
+use Rattle.rules.specs.Mesh.{Mesh, Room, source, dest, edge, opposite, oppositeOf, findArc, findVertex, findFace}
 use Rattle.rules.specs.Link.{ringVertices}
 use Rattle.rules.specs.Step.{Step, told, accepted}
 use Rattle.rules.specs.Insert.{arcAt, insertChecks, listsOf, putFace}
@@ -23,20 +24,24 @@ use Rattle.rules.specs.Sound.{sound}
 use Rattle.rules.specs.Call.{Need, needs, checks, need, insertNeed, pairsWithout, arcByKeys, work, faceSplit}
 use Rattle.rules.proofs.Counts.{found-passes}
 use Rattle.rules.proofs.Scan.{first-le}
+use Rattle.rules.proofs.Sums.{or-cases, or-l, or-r}
 use Rattle.proved.specs.Demand.{Holds}
-use Rattle.proved.specs.Facts.{SoundFacts, IsFace}
+use Rattle.proved.specs.Facts.{SoundFacts, IsFace, IsArc}
 use Rattle.proved.proofs.Rows.{true-T, in-table}
 use Rattle.proved.proofs.Ring.{ring-counts, ring-from}
 use Rattle.proved.proofs.Clauses.{facts}
 use Rattle.kept.specs.Frame.{AllButRings, ThreeCounters, Met}
 use Rattle.kept.specs.Perimeter.{Perimeter, corner, following, ListsLeave}
 use Rattle.kept.specs.Reaches.{KeepsEnds, Spared, SameRing}
-use Rattle.kept.specs.Makers.{Makers, LikeRules, putFaceBy, splitWorkBy}
+use Rattle.makers.specs.Search.{arcsOn}
+use Rattle.makers.specs.Makers.{Makers, LikeRules, putFaceBy, splitWorkBy}
 use Rattle.kept.specs.Suffices.{Tally, Within}
 use Rattle.kept.specs.Local.{FacesSince}
 use Rattle.kept.proofs.Base.{but-rings}
 use Rattle.kept.proofs.Counted.{met}
 use Rattle.kept.proofs.Find.{Between, find-back, arc-back, arc-some}
+use Rattle.kept.proofs.Opposite.{found-is}
+use Rattle.kept.proofs.Tells.{SearchedIn, searched-here, on-at, at-on, on-either}
 use Rattle.kept.proofs.Spared.{spared-onto, same-ring}
 use Rattle.kept.proofs.Remove.{remove-kept, remove-spares, remove-ends, remove-was}
 use Rattle.kept.proofs.Lists.{lists-leave}
@@ -44,7 +49,7 @@ use Rattle.kept.proofs.Passed.{Passed, passed, places-apart}
 use Rattle.kept.proofs.Reaches.{NotOn, not-on}
 use Rattle.kept.proofs.Halves.{vertices-length, half-vertex, half-on, half-end, half-start, half-need}
 use Rattle.kept.proofs.Stretch.{stretch-ends}
-use Rattle.kept.proofs.Keeps.{keeps-none, keeps-onto, back-there}
+use Rattle.kept.proofs.Keeps.{keeps-none, keeps-onto, keeps-between, back-there}
 use Rattle.kept.proofs.Eight.{answer-zero, checked-through}
 use Rattle.kept.proofs.Makers.{put-face-by}
 use Rattle.kept.proofs.Tallies.{tally-onto, left-met, tally-remove}
@@ -204,10 +209,47 @@ module _ (m : Mesh) (s : SoundFacts m) (k : ThreeCounters m) (f a b : ℕ) (u : 
     edges-few : pairsWithout m₁ left + pairsWithout m₂ right ≤ cond (eqb (findArc m a b) 0) 1 0
     edges-few = omega (arith, left-need, right-need)
 
-    both-by : (by : Makers) → LikeRules by → putFaceBy by (putFaceBy by m₁ left (listsOf m₁ left) 0) right (listsOf m₁ right) 0 ≡ m₃
+    -- the right half's lists are searched before the left half is in, with the arcs of both as soon held
+    abbrev soon : List ℕ
+    soon = arcsOn m₁ right ++ arcsOn m₁ left
+
+    on-right : (x c : ℕ) → IsArc m₁ x → c < length right → x ≡ arcAt m₁ right c → arcAt m₂ right c ≡ x
+    unfolding arcAt
+    on-right x c v l e =
+        let back = arc-back (m₁ .arcs) (corner right c) (following right c) (λ z. let t = in-table (m₁ .arcs) x v in omega arith) in
+        found-is m₂ b₂ (corner right c) (following right c) x (keeps-between (put₁ .keeps) (record { exists = v; leaves = ap (source m₁) e ∙ back .leaves; arrives = ap (dest m₁) e ∙ back .arrives }))
+
+    was-right : (x c : ℕ) → IsArc m₁ x → c < length right → x ≡ arcAt m₂ right c → arcAt m₁ right c ≡ x
+    unfolding arcAt
+    was-right x c v l e =
+        let back = arc-back (m₂ .arcs) (corner right c) (following right c) (λ z. let t = in-table (m₁ .arcs) x v in omega arith) in
+        found-is m₁ b₁ (corner right c) (following right c) x
+        (record { exists = v; leaves = sym (put₁ .keeps .sources x v) ∙ ap (source m₂) e ∙ back .leaves; arrives = sym (put₁ .keeps .dests x v) ∙ ap (dest m₂) e ∙ back .arrives })
+
+    opposite-kept : (x : ℕ) → IsArc m₁ x → opposite m₂ x ≡ opposite m₁ x
+    unfolding oppositeOf
+    opposite-kept x v = let e = b₁ .edge-exists x v in rw (put₁ .local .edge-stays x v, put₁ .local .edges-stay (edge m₁ x) 1 e, put₁ .local .edges-stay (edge m₁ x) 2 e)
+
+    searched₂ : SearchedIn m₁ soon right m₂
+    searched₂ =
+        record {
+          base = b₁;
+          vertices = half-perimeter m₁ k₁ j i jl il qr .vertices;
+          arcs = put₁ .keeps .arcs;
+          opposites = opposite-kept;
+          held = λ x v h. or-cases (has (arcsOn m₁ right) x) (has (arcsOn m₁ left) x) (subst T (on-either (arcsOn m₁ right) (arcsOn m₁ left) x) h)
+              (λ q. let w = on-at m₁ right x q in inl (w .0, w .1, sym (on-right x (w .0) v (w .1) (w .2))))
+              (λ q. let w = on-at m₁ left x q in inr (put₁ .holds x (w .0) v (w .1) (w .2)));
+          others = λ x v n. let n′ : T (has (arcsOn m₁ right) x || has (arcsOn m₁ left) x) → ⊥ = λ q. n (subst T (sym (on-either (arcsOn m₁ right) (arcsOn m₁ left) x)) q) in (
+            put₁ .faces-stay x v (λ c l e. n′ (or-r (has (arcsOn m₁ right) x) (has (arcsOn m₁ left) x) (at-on m₁ left c x l e))),
+            λ c l e. n′ (or-l (has (arcsOn m₁ right) x) (has (arcsOn m₁ left) x) (at-on m₁ right c x l (sym (was-right x c v l e)))),
+          );
+        }
+
+    both-by : (by : Makers) → LikeRules by → putFaceBy by m₁ soon (putFaceBy by m₁ (arcsOn m₁ left) m₁ left 0) right 0 ≡ m₃
     both-by by like =
-        ap (λ (z : Mesh). putFaceBy by z right (listsOf m₁ right) 0) (put-face-by by like m₁ b₁ left p₁ (three m₁ k₁) need₁ (listsOf m₁ left) 0)
-        ∙ put-face-by by like m₂ b₂ right p₂ (three m₂ k₂) need₂ (listsOf m₁ right) 0
+        ap (λ (z : Mesh). putFaceBy by m₁ soon z right 0) (put-face-by by like m₁ b₁ left p₁ (three m₁ k₁) need₁ m₁ (arcsOn m₁ left) (searched-here m₁ b₁ left p₁) 0)
+        ∙ put-face-by by like m₂ b₂ right p₂ (three m₂ k₂) need₂ m₁ soon searched₂ 0
 
     -- ---- other faces
 
@@ -226,17 +268,10 @@ module _ (m : Mesh) (s : SoundFacts m) (k : ThreeCounters m) (f a b : ℕ) (u : 
 
       -- the right half's arcs do not hold it either
       off-right : NotOn m₂ right g
-      unfolding arcAt
       off-right c l h =
           let x = arcAt m₂ right c in
-          let a′ = corner right c in
-          let b′ = following right c in
           let w = second .no-more x h in
-          let found = arc-back (m₂ .arcs) a′ b′ (λ e. let t = in-table (m₂ .arcs) x (h .exists) in omega arith) in
-          let here : Between (m₁ .arcs) a′ b′ x = record { exists = w .exists; leaves = sym (put₁ .keeps .sources x (w .exists)) ∙ found .leaves; arrives = sym (put₁ .keeps .dests x (w .exists)) ∙ found .arrives } in
-          let some = arc-some (m₁ .arcs) a′ b′ (omega (arith, b₁ .sizes .arc-rows, b₁ .sizes .edge-rows)) x here in
-          let was = arc-back (m₁ .arcs) a′ b′ some in
-          let e : arcAt m₁ right c ≡ x = b₁ .pairs-differ (arcAt m₁ right c) x (was .exists) (w .exists) (was .leaves ∙ sym (here .leaves)) (was .arrives ∙ sym (here .arrives)) in
+          let e = was-right x c (w .exists) l refl in
           not-on m₁ right (qr .no-conflict) g none c l (subst (Holds m₁ g) (sym e) w)
 
       pub split-spares : Spared m m₃ g
@@ -279,7 +314,7 @@ module _ (m : Mesh) (s : SoundFacts m) (k : ThreeCounters m) (f a b : ℕ) (u : 
       (λ h′.
       let ql = passed m₁ left left h in
       let qr = passed m₁ right right h′ in
-      step-made (putFaceBy by (putFaceBy by m₁ left (listsOf m₁ left) 0) right (listsOf m₁ right) 0) _ (splitNeed m a b) (tally₃ ql qr) (edges-few ql qr) (omega arith) (both-by ql qr by like)))
+      step-made (putFaceBy by m₁ (arcsOn m₁ right ++ arcsOn m₁ left) (putFaceBy by m₁ (arcsOn m₁ left) m₁ left 0) right 0) _ (splitNeed m a b) (tally₃ ql qr) (edges-few ql qr) (omega arith) (both-by ql qr by like)))
     where
       removed-only : Within m m₁ (splitNeed m a b) 1
       removed-only =

@@ -1,6 +1,7 @@
 -- An edit is made of steps: a vertex, an edge, a face is made, two arcs are linked, an arc's face is set, a face's record is dropped. What each
 -- of these keeps, every edit keeps, in mid-edit too: for every mesh, every edit, all keys, and any makers.
 use Prim.Native.Nat.{ℕ, zero, suc}
+use mathlib.Core.Path.{_≡_, sym, subst}
 use mathlib.Core.Bool.{Bool, true, false, cond}
 use mathlib.Core.List.{List, [], _∷_}
 use lib.ListN.{length, getD}
@@ -14,10 +15,10 @@ use Rattle.rules.specs.Table.{putRow, upTo}
 use Rattle.rules.specs.Mesh.{Mesh, mesh, findArc, face, opposite}
 use Rattle.rules.specs.Link.{connect, setFace, ring}
 use Rattle.rules.specs.Step.{Step, step, accepted, andThen, answering, checked}
-use Rattle.rules.specs.Insert.{arcAt, interior, exteriorAt, exterior}
+use Rattle.rules.specs.Insert.{arcAt, interior, exteriorAt, exterior, listsOf}
 use Rattle.rules.specs.Edit.{remove, removeWork}
 use Rattle.rules.specs.Extrude.{Copies}
-use Rattle.kept.specs.Makers.{Makers, getOrInsertEdgeBy, edgesUpToBy, putFaceBy, insertWorkBy, insertFaceBy, splitWorkBy, pokeWorkBy, arcBridgeWorkBy, arcBridgeBy, bridgeWorkBy, copyOneBy, copiesBy, extrudeWorkBy, arcExtrudeWorkBy, workBy}
+use Rattle.makers.specs.Makers.{Makers, getOrInsertEdgeBy, edgesUpToBy, putFaceBy, insertWorkBy, insertFaceBy, splitWorkBy, pokeWorkBy, arcBridgeWorkBy, arcBridgeBy, bridgeWorkBy, copyOneBy, copiesBy, extrudeWorkBy, arcExtrudeWorkBy, workBy}
 
 -- a mesh with a face's record dropped
 abbrev pub dropped : Mesh → ℕ → Mesh
@@ -33,6 +34,8 @@ pub record KeptBySteps (R : Mesh → Mesh → Type 0) (by : Makers) : Type 0 whe
   pub link : (m : Mesh) (x y : ℕ) → R m (connect m x y)
   pub set-face : (m : Mesh) (x f : ℕ) → R m (setFace m x f)
   pub drop : (m : Mesh) (f : ℕ) → R m (dropped m f)
+  -- the exterior is rule 5's, by lists
+  pub outside : (old : Mesh) (soon per : List ℕ) (m : Mesh) → by .outside old soon per m ≡ exterior per (listsOf old per) m
 
 module _ (R : Mesh → Mesh → Type 0) (by : Makers) (k : KeptBySteps R by) where
   -- ---- one step or none, and a loop over what holds a mesh
@@ -60,13 +63,17 @@ module _ (R : Mesh → Mesh → Type 0) (by : Makers) (k : KeptBySteps R by) whe
   exterior-at per lists i m =
       either (eqb (face m (opposite m (arcAt m per i))) 0) _ m (k .through _ _ _ (k .link m _ _) (k .link _ _ _)) (k .itself m)
 
-  put-face : (m : Mesh) (per : List ℕ) (lists : List (List ℕ)) (mark : ℕ) → R m (putFaceBy by m per lists mark)
-  unfolding putFaceBy edgesUpToBy interior exterior
-  put-face m per lists mark =
+  border : (per : List ℕ) (lists : List (List ℕ)) (m : Mesh) → R m (exterior per lists m)
+  unfolding exterior
+  border per lists m = meshes (exteriorAt per lists) (length per) m (exterior-at per lists)
+
+  put-face : (m old : Mesh) (soon per : List ℕ) (mark : ℕ) → R m (putFaceBy by old soon m per mark)
+  unfolding putFaceBy edgesUpToBy interior
+  put-face m old soon per mark =
       k .through _ _ _ (meshes _ (length per) m (λ i a. edge-in a _ _))
       (k .through _ _ _ (k .face _ _ mark)
       (k .through _ _ _ (meshes _ (length per) _ (λ i a. k .through _ _ _ (k .link a _ _) (k .set-face _ _ _)))
-      (meshes (exteriorAt per lists) (length per) _ (exterior-at per lists))))
+      (subst (R _) (sym (k .outside old soon per _)) (border per (listsOf old per) _))))
 
   -- ---- an edit in progress
 
@@ -94,11 +101,11 @@ module _ (R : Mesh → Mesh → Type 0) (by : Makers) (k : KeptBySteps R by) whe
 
   insert-face : (m : Mesh) (per : List ℕ) (mark : ℕ) → Leaves m (insertFaceBy by m per mark)
   unfolding insertFaceBy insertWorkBy
-  insert-face m per mark = behind-checks m m _ _ (k .itself m) (put-face m per _ mark)
+  insert-face m per mark = behind-checks m m _ _ (k .itself m) (put-face m m _ per mark)
 
   bridge-arcs : (m : Mesh) (x y : ℕ) → Leaves m (arcBridgeBy by m x y)
   unfolding arcBridgeBy arcBridgeWorkBy insertWorkBy
-  bridge-arcs m x y = behind-checks m m _ _ (k .itself m) (put-face m _ _ 0)
+  bridge-arcs m x y = behind-checks m m _ _ (k .itself m) (put-face m m _ _ 0)
 
   -- ---- the edits: those that remove a face, from its removal on
 
@@ -110,7 +117,7 @@ module _ (R : Mesh → Mesh → Type 0) (by : Makers) (k : KeptBySteps R by) whe
   unfolding splitWorkBy
   splits-on m f s d =
       let a = remove m f in
-      behind-checks a a _ _ (k .itself a) (behind-checks a a _ _ (k .itself a) (k .through _ _ _ (put-face a _ _ 0) (put-face _ _ _ 0)))
+      behind-checks a a _ _ (k .itself a) (behind-checks a a _ _ (k .itself a) (k .through _ _ _ (put-face a a _ _ 0) (put-face _ a _ _ 0)))
 
   pub pokes-on : (m : Mesh) (f : ℕ) (p : Position) → Leaves (remove m f) (pokeWorkBy by m f p)
   unfolding pokeWorkBy
@@ -137,11 +144,11 @@ module _ (R : Mesh → Mesh → Type 0) (by : Makers) (k : KeptBySteps R by) whe
   pub work-keeps : (m : Mesh) (e : Edit) (keys : List ℕ) → R m (workBy by m e keys .tables)
   unfolding workBy insertWorkBy removeWork arcBridgeWorkBy
   work-keeps m (VertexInsert p) keys = k .vertex m p
-  work-keeps m (FaceInsert mark) keys = put-face m _ _ mark
+  work-keeps m (FaceInsert mark) keys = put-face m m _ _ mark
   work-keeps m (FaceRemove f) keys = removes m _
   work-keeps m (FaceSplit f s d) keys = k .through _ _ _ (removes m _) (splits-on m _ _ _)
   work-keeps m (FacePoke f p) keys = k .through _ _ _ (removes m _) (pokes-on m _ p)
   work-keeps m (FaceBridge f g) keys = k .through _ _ _ (removes m _) (k .through _ _ _ (removes _ _) (bridges-on m _ _))
   work-keeps m (FaceExtrude f move) keys = k .through _ _ _ (removes m _) (extrudes-on m _ move)
-  work-keeps m (ArcBridge a b c d) keys = put-face m _ _ 0
+  work-keeps m (ArcBridge a b c d) keys = put-face m m _ _ 0
   work-keeps m (ArcExtrude s d move) keys = arc-extrudes m _ move

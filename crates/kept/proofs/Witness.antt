@@ -23,7 +23,7 @@ use Rattle.rules.specs.Script.{emptyRoom, emptyMesh}
 use lib.Ieee.{span, climb, size, odd, units, round, ofFields, ofBits, toBits}
 use Rattle.proved.proofs.Reached.{none-there}
 use Rattle.kept.specs.Reaches.{NoArcAt}
-use Rattle.kept.specs.Makers.{Makers, LikeRules, workBy}
+use Rattle.makers.specs.Makers.{Makers, byLists, LikeRules, workBy}
 use Rattle.kept.specs.Suffices.{Suffices}
 use Rattle.proved.specs.Demand.{Made, made, afterCall, afterCalls, reached}
 
@@ -58,11 +58,11 @@ fresh-there = record { none-leaves = λ x k u h e. none x u; none-arrives = λ x
 
 -- makers that make no vertex where no row or no key is left
 abbrev idle : Makers
-idle = record { vertex = λ m p. cond (leb 1 (freeRow (m .vertices)) && leb (nextKey m vertexKind + 1) keyLimit) (newVertex m p) m; edge = newEdge; face = newFace }
+idle = record { vertex = λ m p. cond (leb 1 (freeRow (m .vertices)) && leb (nextKey m vertexKind + 1) keyLimit) (newVertex m p) m; edge = newEdge; face = newFace; outside = byLists }
 
 idle-like : LikeRules idle
 idle-like =
-    record { vertex-same = λ m p r. rw (le-leb 1 (freeRow (m .vertices)) (r .a-row), le-leb (nextKey m vertexKind + 1) keyLimit (r .a-key)); edge-same = λ m a b r. refl; face-same = λ m x mark r. refl }
+    record { vertex-same = λ m p r. rw (le-leb 1 (freeRow (m .vertices)) (r .a-row), le-leb (nextKey m vertexKind + 1) keyLimit (r .a-key)); edge-same = λ m a b r. refl; face-same = λ m x mark r. refl; outside-same = λ old soon per m t. refl }
 
 -- a mesh without rows, where the test of the need fails: by the rules a vertex insert would count a key there and write no vertex, and by these makers do nothing
 abbrev rowless : Mesh

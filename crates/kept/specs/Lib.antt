@@ -2,7 +2,6 @@ pub mod Frame
 pub mod Said
 pub mod Perimeter
 pub mod Reaches
-pub mod Makers
 pub mod Suffices
 pub mod Local
 pub mod Exactly

@@ -10,7 +10,7 @@ use Rattle.rules.specs.Table.{count, unused}
 use Rattle.rules.specs.Mesh.{Mesh, keyLimit, vertexKind, edgeKind, faceKind, nextKey}
 use Rattle.rules.specs.Step.{accepted}
 use Rattle.rules.specs.Call.{Need, need, work}
-use Rattle.kept.specs.Makers.{Makers, LikeRules, workBy}
+use Rattle.makers.specs.Makers.{Makers, LikeRules, workBy}
 
 -- nothing is lost: n is m after so many vertices, edges and faces were made and so many faces removed. Each vertex, edge and face made took a
 -- free row and a key, each edge two free rows of the arcs, and each face removed gave its row back. A record that found no free row would
