@@ -22,7 +22,7 @@ ghost use lib.Ieee.{Float};
 ghost use Rattle.rules.specs.Mesh.{listOf};
 ghost use Rattle.rules.specs.Lent.{unlent, meshBefore, meshAfter};
 ghost use Rattle.rules.specs.Step.{step};
-ghost use Rattle.rules.specs.Edit.{arcBridge, bridgeWork};
+ghost use Rattle.makers.specs.Makers.{searching, arcBridgeBy, bridgeWorkBy};
 ghost use Rattle.edits.specs.Each.{eachIn};
 ghost use Rattle.edits.specs.Known.{Known};
 
@@ -33,20 +33,17 @@ fn pairs_in(
     edges: &mut [EdgeRow],
     faces: &mut [FaceRow],
     counters: &mut [u32; 3],
-    past: &mut [ArcRow],
-    pastedges: &mut [EdgeRow],
     seen: &[bool; MARKS],
     near: &[u32; NEAR],
     around: Around,
     forth: Links,
     back: Links,
 ) -> Answer
-    requires { ⌜ (length (now past) ≡ length (now arcs)) × (length (now pastedges) ≡ length (now edges)) ⌝ }
     requires { ⌜ Known (now arcs) (now edges) (now faces) (now seen) (now near) around ⌝ }
     ensures { λ r. ⌜
         ((p : List (List Float)) →
         step (meshAfter vertices (unlent p) arcs edges faces counters) r
-        ≡ eachIn (λ i a. arcBridge a (getD (listOf forth) i 0) (getD (reverse (listOf back)) i 0)) (length (listOf forth))
+        ≡ eachIn (λ i a. arcBridgeBy searching a (getD (listOf forth) i 0) (getD (reverse (listOf back)) i 0)) (length (listOf forth))
         (meshBefore vertices (unlent p) arcs edges faces counters))
         ⌝ }
 {
@@ -61,8 +58,6 @@ fn pairs_in(
             edges,
             faces,
             counters,
-            past,
-            pastedges,
             seen,
             near,
             around,
@@ -84,16 +79,13 @@ fn pairs_near(
     edges: &mut [EdgeRow],
     faces: &mut [FaceRow],
     counters: &mut [u32; 3],
-    past: &mut [ArcRow],
-    pastedges: &mut [EdgeRow],
     forth: Links,
     back: Links,
 ) -> Answer
-    requires { ⌜ (length (now past) ≡ length (now arcs)) × (length (now pastedges) ≡ length (now edges)) ⌝ }
     ensures { λ r. ⌜
         ((p : List (List Float)) →
         step (meshAfter vertices (unlent p) arcs edges faces counters) r
-        ≡ eachIn (λ i a. arcBridge a (getD (listOf forth) i 0) (getD (reverse (listOf back)) i 0)) (length (listOf forth))
+        ≡ eachIn (λ i a. arcBridgeBy searching a (getD (listOf forth) i 0) (getD (reverse (listOf back)) i 0)) (length (listOf forth))
         (meshBefore vertices (unlent p) arcs edges faces counters))
         ⌝ }
 {
@@ -119,8 +111,6 @@ fn pairs_near(
         edges,
         faces,
         counters,
-        past,
-        pastedges,
         &seen,
         &links,
         around,
@@ -135,32 +125,19 @@ pub fn bridge_work(
     edges: &mut [EdgeRow],
     faces: &mut [FaceRow],
     counters: &mut [u32; 3],
-    past: &mut [ArcRow],
-    pastedges: &mut [EdgeRow],
     f: u32,
     g: u32,
 ) -> Answer
-    requires { ⌜ (length (now past) ≡ length (now arcs)) × (length (now pastedges) ≡ length (now edges)) ⌝ }
     ensures { λ r. ⌜
         ((p : List (List Float)) →
         step (meshAfter vertices (unlent p) arcs edges faces counters) r
-        ≡ bridgeWork (meshBefore vertices (unlent p) arcs edges faces counters) f g)
+        ≡ bridgeWorkBy searching (meshBefore vertices (unlent p) arcs edges faces counters) f g)
         ⌝ }
 {
     let forth = checks::rings::ring_of(arcs, faces, f);
     let back = checks::rings::ring_of(arcs, faces, g);
     edges::face::remove_face(arcs, faces, f);
     edges::face::remove_face(arcs, faces, g);
-    let told = pairs_near(
-        vertices,
-        arcs,
-        edges,
-        faces,
-        counters,
-        past,
-        pastedges,
-        forth,
-        back,
-    );
+    let told = pairs_near(vertices, arcs, edges, faces, counters, forth, back);
     pieces::answering(Answer::Key(0), told)
 }

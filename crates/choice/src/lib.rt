@@ -20,7 +20,7 @@ ghost use Rattle.rules.specs.Table.{Table};
 ghost use Rattle.rules.specs.Mesh.{mesh};
 ghost use Rattle.rules.specs.Lent.{unlent, meshBefore, meshAfter};
 ghost use Rattle.rules.specs.Step.{step};
-ghost use Rattle.rules.specs.Call as Call;
+ghost use Rattle.makers.specs.Makers.{searching, workBy};
 
 fn vertex_insert(
     vertices: &mut [VertexRow],
@@ -31,7 +31,7 @@ fn vertex_insert(
     ensures { λ r. ⌜
         ((a e f : Table) (ks : List ℕ) →
         step (mesh (now (vertices .exit)) (now (positions .exit)) a e f (now (counters .exit))) r
-        ≡ Call.work (mesh (now (vertices .entry)) (now (positions .entry)) a e f (now (counters .entry))) (VertexInsert position) ks)
+        ≡ workBy searching (mesh (now (vertices .entry)) (now (positions .entry)) a e f (now (counters .entry))) (VertexInsert position) ks)
         ⌝ }
 {
     let key = counters[0];
@@ -46,33 +46,20 @@ fn face_insert(
     edges: &mut [EdgeRow],
     faces: &mut [FaceRow],
     counters: &mut [u32; 3],
-    past: &mut [ArcRow],
-    pastedges: &mut [EdgeRow],
     mark: u32,
     keys: &[u32],
 ) -> Answer
-    requires { ⌜ (length (now past) ≡ length (now arcs)) × (length (now pastedges) ≡ length (now edges)) ⌝ }
     requires { ⌜ length (now keys) ≤ 64 ⌝ }
     ensures { λ r. ⌜
         ((p : List (List Float)) →
         step (meshAfter vertices (unlent p) arcs edges faces counters) r
-        ≡ Call.work (meshBefore vertices (unlent p) arcs edges faces counters) (FaceInsert mark) (now (keys .entry)))
+        ≡ workBy searching (meshBefore vertices (unlent p) arcs edges faces counters) (FaceInsert mark) (now (keys .entry)))
         ⌝ }
 {
     let names = lists::from_keys(keys);
     let per = lists::vertices_by_keys(vertices, names);
     let key = counters[2];
-    insert::face::insert_work(
-        vertices,
-        arcs,
-        edges,
-        faces,
-        counters,
-        past,
-        pastedges,
-        per,
-        mark,
-    );
+    insert::face::insert_work(vertices, arcs, edges, faces, counters, per, mark);
     Answer::Key(key)
 }
 
@@ -80,7 +67,7 @@ fn face_remove(arcs: &mut [ArcRow], faces: &mut [FaceRow], face: u32) -> Answer
     ensures { λ r. ⌜
         ((v : Table) (p : List (List Float)) (e : Table) (k ks : List ℕ) →
         step (mesh v p (now (arcs .exit)) e (now (faces .exit)) k) r
-        ≡ Call.work (mesh v p (now (arcs .entry)) e (now (faces .entry)) k) (FaceRemove face) ks)
+        ≡ workBy searching (mesh v p (now (arcs .entry)) e (now (faces .entry)) k) (FaceRemove face) ks)
         ⌝ }
 {
     let f = rows::find_key3(faces, face);
@@ -95,34 +82,20 @@ fn face_split(
     edges: &mut [EdgeRow],
     faces: &mut [FaceRow],
     counters: &mut [u32; 3],
-    past: &mut [ArcRow],
-    pastedges: &mut [EdgeRow],
     face: u32,
     s: u32,
     d: u32,
 ) -> Answer
-    requires { ⌜ (length (now past) ≡ length (now arcs)) × (length (now pastedges) ≡ length (now edges)) ⌝ }
     ensures { λ r. ⌜
         ((p : List (List Float)) (ks : List ℕ) →
         step (meshAfter vertices (unlent p) arcs edges faces counters) r
-        ≡ Call.work (meshBefore vertices (unlent p) arcs edges faces counters) (FaceSplit face s d) ks)
+        ≡ workBy searching (meshBefore vertices (unlent p) arcs edges faces counters) (FaceSplit face s d) ks)
         ⌝ }
 {
     let f = rows::find_key3(faces, face);
     let from = rows::find_key2(vertices, s);
     let to = rows::find_key2(vertices, d);
-    split::split_work(
-        vertices,
-        arcs,
-        edges,
-        faces,
-        counters,
-        past,
-        pastedges,
-        f,
-        from,
-        to,
-    )
+    split::split_work(vertices, arcs, edges, faces, counters, f, from, to)
 }
 
 fn face_poke(
@@ -132,16 +105,13 @@ fn face_poke(
     edges: &mut [EdgeRow],
     faces: &mut [FaceRow],
     counters: &mut [u32; 3],
-    past: &mut [ArcRow],
-    pastedges: &mut [EdgeRow],
     face: u32,
     position: Position,
 ) -> Answer
-    requires { ⌜ (length (now past) ≡ length (now arcs)) × (length (now pastedges) ≡ length (now edges)) ⌝ }
     ensures { λ r. ⌜
         ((ks : List ℕ) →
         step (meshAfter vertices positions arcs edges faces counters) r
-        ≡ Call.work (meshBefore vertices positions arcs edges faces counters) (FacePoke face position) ks)
+        ≡ workBy searching (meshBefore vertices positions arcs edges faces counters) (FacePoke face position) ks)
         ⌝ }
 {
     let f = rows::find_key3(faces, face);
@@ -152,8 +122,6 @@ fn face_poke(
         edges,
         faces,
         counters,
-        past,
-        pastedges,
         f,
         position,
     )
@@ -165,31 +133,18 @@ fn face_bridge(
     edges: &mut [EdgeRow],
     faces: &mut [FaceRow],
     counters: &mut [u32; 3],
-    past: &mut [ArcRow],
-    pastedges: &mut [EdgeRow],
     source: u32,
     destination: u32,
 ) -> Answer
-    requires { ⌜ (length (now past) ≡ length (now arcs)) × (length (now pastedges) ≡ length (now edges)) ⌝ }
     ensures { λ r. ⌜
         ((p : List (List Float)) (ks : List ℕ) →
         step (meshAfter vertices (unlent p) arcs edges faces counters) r
-        ≡ Call.work (meshBefore vertices (unlent p) arcs edges faces counters) (FaceBridge source destination) ks)
+        ≡ workBy searching (meshBefore vertices (unlent p) arcs edges faces counters) (FaceBridge source destination) ks)
         ⌝ }
 {
     let f = rows::find_key3(faces, source);
     let g = rows::find_key3(faces, destination);
-    bridge::bridge_work(
-        vertices,
-        arcs,
-        edges,
-        faces,
-        counters,
-        past,
-        pastedges,
-        f,
-        g,
-    )
+    bridge::bridge_work(vertices, arcs, edges, faces, counters, f, g)
 }
 
 fn face_extrude(
@@ -199,31 +154,17 @@ fn face_extrude(
     edges: &mut [EdgeRow],
     faces: &mut [FaceRow],
     counters: &mut [u32; 3],
-    past: &mut [ArcRow],
-    pastedges: &mut [EdgeRow],
     face: u32,
     by: Move,
 ) -> Answer
-    requires { ⌜ (length (now past) ≡ length (now arcs)) × (length (now pastedges) ≡ length (now edges)) ⌝ }
     ensures { λ r. ⌜
         ((ks : List ℕ) →
         step (meshAfter vertices positions arcs edges faces counters) r
-        ≡ Call.work (meshBefore vertices positions arcs edges faces counters) (FaceExtrude face by) ks)
+        ≡ workBy searching (meshBefore vertices positions arcs edges faces counters) (FaceExtrude face by) ks)
         ⌝ }
 {
     let f = rows::find_key3(faces, face);
-    extrude::extrude_work(
-        vertices,
-        positions,
-        arcs,
-        edges,
-        faces,
-        counters,
-        past,
-        pastedges,
-        f,
-        by,
-    )
+    extrude::extrude_work(vertices, positions, arcs, edges, faces, counters, f, by)
 }
 
 fn arc_bridge(
@@ -232,31 +173,19 @@ fn arc_bridge(
     edges: &mut [EdgeRow],
     faces: &mut [FaceRow],
     counters: &mut [u32; 3],
-    past: &mut [ArcRow],
-    pastedges: &mut [EdgeRow],
     a: u32,
     b: u32,
     c: u32,
     d: u32,
 ) -> Answer
-    requires { ⌜ (length (now past) ≡ length (now arcs)) × (length (now pastedges) ≡ length (now edges)) ⌝ }
     ensures { λ r. ⌜
         ((p : List (List Float)) (ks : List ℕ) →
         step (meshAfter vertices (unlent p) arcs edges faces counters) r
-        ≡ Call.work (meshBefore vertices (unlent p) arcs edges faces counters) (ArcBridge a b c d) ks)
+        ≡ workBy searching (meshBefore vertices (unlent p) arcs edges faces counters) (ArcBridge a b c d) ks)
         ⌝ }
 {
     let four = checks::call::four_by_keys(vertices, a, b, c, d);
-    edits::arc::arc_bridge_work(
-        vertices,
-        arcs,
-        edges,
-        faces,
-        counters,
-        past,
-        pastedges,
-        four,
-    )
+    edits::arc::arc_bridge_work(vertices, arcs, edges, faces, counters, four)
 }
 
 fn arc_extrude(
@@ -266,32 +195,18 @@ fn arc_extrude(
     edges: &mut [EdgeRow],
     faces: &mut [FaceRow],
     counters: &mut [u32; 3],
-    past: &mut [ArcRow],
-    pastedges: &mut [EdgeRow],
     s: u32,
     d: u32,
     by: Move,
 ) -> Answer
-    requires { ⌜ (length (now past) ≡ length (now arcs)) × (length (now pastedges) ≡ length (now edges)) ⌝ }
     ensures { λ r. ⌜
         ((ks : List ℕ) →
         step (meshAfter vertices positions arcs edges faces counters) r
-        ≡ Call.work (meshBefore vertices positions arcs edges faces counters) (ArcExtrude s d by) ks)
+        ≡ workBy searching (meshBefore vertices positions arcs edges faces counters) (ArcExtrude s d by) ks)
         ⌝ }
 {
     let x = checks::call::arc_by_keys(vertices, arcs, s, d);
-    edits::arc::arc_extrude_work(
-        vertices,
-        positions,
-        arcs,
-        edges,
-        faces,
-        counters,
-        past,
-        pastedges,
-        x,
-        by,
-    )
+    edits::arc::arc_extrude_work(vertices, positions, arcs, edges, faces, counters, x, by)
 }
 
 // The edit that is chosen. A face insert has at most 64 keys.
@@ -302,31 +217,18 @@ pub fn work(
     edges: &mut [EdgeRow],
     faces: &mut [FaceRow],
     counters: &mut [u32; 3],
-    past: &mut [ArcRow],
-    pastedges: &mut [EdgeRow],
     edit: Edit,
     keys: &[u32],
 ) -> Answer
-    requires { ⌜ (length (now past) ≡ length (now arcs)) × (length (now pastedges) ≡ length (now edges)) ⌝ }
     requires { ⌜ ((mark : ℕ) → edit ≡ FaceInsert mark → length (now keys) ≤ 64) ⌝ }
     ensures { λ r. ⌜
         (step (meshAfter vertices positions arcs edges faces counters) r
-        ≡ Call.work (meshBefore vertices positions arcs edges faces counters) edit (now (keys .entry)))
+        ≡ workBy searching (meshBefore vertices positions arcs edges faces counters) edit (now (keys .entry)))
         ⌝ }
 {
     match edit {
         Edit::VertexInsert(position) => vertex_insert(vertices, positions, counters, position),
-        Edit::FaceInsert(mark) => face_insert(
-            vertices,
-            arcs,
-            edges,
-            faces,
-            counters,
-            past,
-            pastedges,
-            mark,
-            keys,
-        ),
+        Edit::FaceInsert(mark) => face_insert(vertices, arcs, edges, faces, counters, mark, keys),
         Edit::FaceRemove(face) => face_remove(arcs, faces, face),
         Edit::FaceSplit(face, s, d) => face_split(
             vertices,
@@ -334,8 +236,6 @@ pub fn work(
             edges,
             faces,
             counters,
-            past,
-            pastedges,
             face,
             s,
             d,
@@ -347,8 +247,6 @@ pub fn work(
             edges,
             faces,
             counters,
-            past,
-            pastedges,
             face,
             position,
         ),
@@ -358,8 +256,6 @@ pub fn work(
             edges,
             faces,
             counters,
-            past,
-            pastedges,
             source,
             destination,
         ),
@@ -370,8 +266,6 @@ pub fn work(
             edges,
             faces,
             counters,
-            past,
-            pastedges,
             face,
             by,
         ),
@@ -381,8 +275,6 @@ pub fn work(
             edges,
             faces,
             counters,
-            past,
-            pastedges,
             a,
             b,
             c,
@@ -395,8 +287,6 @@ pub fn work(
             edges,
             faces,
             counters,
-            past,
-            pastedges,
             s,
             d,
             by,

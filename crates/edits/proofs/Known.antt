@@ -10,7 +10,7 @@ use Rattle.rules.specs.Table.{upTo}
 use Rattle.rules.specs.Mesh.{Mesh, arcBetween}
 use Rattle.rules.specs.Link.{newEdge, getOrInsertEdge}
 use Rattle.rules.specs.Step.{Step, step, accepted, andThen, answering}
-use Rattle.rules.specs.Edit.{arcBridge}
+use Rattle.makers.specs.Makers.{searching, getOrInsertEdgeBy, arcBridgeBy}
 use Rattle.pairs.proofs.Filled.{near-stays}
 use Rattle.insert.proofs.Filled.{Filled, as-it-is, and-then, used-stays}
 use Rattle.edits.specs.declared.near.Around.{Around}
@@ -40,9 +40,9 @@ module _ (m n : Mesh) (a b x : ℕ) (ex : x ≡ arcBetween (m .arcs) a b) where
   unfolding getOrInsertEdge
   edge-made z e = rw (eq-eqb (arcBetween (m .arcs) a b) 0 (sym ex ∙ z)) e
 
-pub joined-by : (m m₁ : Mesh) (s : Step) (x c d y : ℕ) → m₁ ≡ getOrInsertEdge m c d → y ≡ arcBetween (m₁ .arcs) c d → s ≡ arcBridge m₁ x y → s ≡ joinedBy m x c d
-unfolding joinedBy
-joined-by m m₁ s x c d y e ey es = es ∙ ap (arcBridge m₁ x) ey ∙ ap (λ (n : Mesh). arcBridge n x (arcBetween (n .arcs) c d)) e
+pub joined-by : (m m₁ : Mesh) (s : Step) (x c d y : ℕ) → m₁ ≡ getOrInsertEdge m c d → y ≡ arcBetween (m₁ .arcs) c d → s ≡ arcBridgeBy searching m₁ x y → s ≡ joinedBy searching m x c d
+unfolding joinedBy getOrInsertEdge getOrInsertEdgeBy
+joined-by m m₁ s x c d y e ey es = es ∙ ap (arcBridgeBy searching m₁ x) ey ∙ ap (λ (n : Mesh). arcBridgeBy searching n x (arcBetween (n .arcs) c d)) e
 
 -- ---- a part repeated
 

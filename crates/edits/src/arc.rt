@@ -20,12 +20,10 @@ use tables::points;
 use tables::rows;
 ghost use mathlib.Core.Path.{_≡_};
 ghost use mathlib.Core.List.{List};
-ghost use lib.ListN.{length};
 ghost use lib.Ieee.{Float};
 ghost use Rattle.rules.specs.Lent.{unlent, meshBefore, meshAfter};
 ghost use Rattle.rules.specs.Step.{step};
-ghost use Rattle.rules.specs.Edit.{arcBridgeWork, arcBridge};
-ghost use Rattle.rules.specs.Extrude.{arcExtrudeWork};
+ghost use Rattle.makers.specs.Makers.{searching, arcBridgeWorkBy, arcBridgeBy, arcExtrudeWorkBy};
 ghost use Rattle.checks.specs.Between.{oneOf, otherOf};
 ghost use Rattle.edits.specs.Each.{joinedBy};
 ghost use Rattle.edits.specs.Known.{Known};
@@ -40,15 +38,12 @@ pub fn arc_bridge_work(
     edges: &mut [EdgeRow],
     faces: &mut [FaceRow],
     counters: &mut [u32; 3],
-    past: &mut [ArcRow],
-    pastedges: &mut [EdgeRow],
     four: [u32; 4],
 ) -> Answer
-    requires { ⌜ (length (now past) ≡ length (now arcs)) × (length (now pastedges) ≡ length (now edges)) ⌝ }
     ensures { λ r. ⌜
         ((p : List (List Float)) →
         step (meshAfter vertices (unlent p) arcs edges faces counters) r
-        ≡ arcBridgeWork (meshBefore vertices (unlent p) arcs edges faces counters) (oneOf (now (arcs .entry)) four)
+        ≡ arcBridgeWorkBy searching (meshBefore vertices (unlent p) arcs edges faces counters) (oneOf (now (arcs .entry)) four)
         (otherOf (now (arcs .entry)) four))
         ⌝ }
 {
@@ -65,8 +60,6 @@ pub fn arc_bridge_work(
         edges,
         faces,
         counters,
-        past,
-        pastedges,
         told.per,
         told.found,
         from,
@@ -82,19 +75,17 @@ pub fn arc_bridge(
     edges: &mut [EdgeRow],
     faces: &mut [FaceRow],
     counters: &mut [u32; 3],
-    past: &mut [ArcRow],
-    pastedges: &mut [EdgeRow],
     seen: &[bool; MARKS],
     near: &[u32; NEAR],
     around: Around,
     x: u32,
     y: u32,
 ) -> Answer
-    requires { ⌜ (length (now past) ≡ length (now arcs)) × (length (now pastedges) ≡ length (now edges)) ⌝ }
     requires { ⌜ Known (now arcs) (now edges) (now faces) (now seen) (now near) around ⌝ }
     ensures { λ r. ⌜
         ((p : List (List Float)) →
-        step (meshAfter vertices (unlent p) arcs edges faces counters) r ≡ arcBridge (meshBefore vertices (unlent p) arcs edges faces counters) x y)
+        step (meshAfter vertices (unlent p) arcs edges faces counters) r
+        ≡ arcBridgeBy searching (meshBefore vertices (unlent p) arcs edges faces counters) x y)
         ⌝ }
 {
     let four = checks::bridge::corners_of(arcs, x, y);
@@ -114,8 +105,6 @@ pub fn arc_bridge(
         edges,
         faces,
         counters,
-        past,
-        pastedges,
         per,
         found,
         from,
@@ -131,19 +120,16 @@ fn joined(
     edges: &mut [EdgeRow],
     faces: &mut [FaceRow],
     counters: &mut [u32; 3],
-    past: &mut [ArcRow],
-    pastedges: &mut [EdgeRow],
     x: u32,
     a: u32,
     b: u32,
     c: u32,
     d: u32,
 ) -> Answer
-    requires { ⌜ (length (now past) ≡ length (now arcs)) × (length (now pastedges) ≡ length (now edges)) ⌝ }
     ensures { λ r. ⌜
         ((p : List (List Float)) →
         step (meshAfter vertices (unlent p) arcs edges faces counters) r
-        ≡ joinedBy (meshBefore vertices (unlent p) arcs edges faces counters) x c d)
+        ≡ joinedBy searching (meshBefore vertices (unlent p) arcs edges faces counters) x c d)
         ⌝ }
 {
     let mut seen = [false; MARKS];
@@ -158,8 +144,6 @@ fn joined(
         edges,
         faces,
         counters,
-        past,
-        pastedges,
         &seen,
         &links,
         around,
@@ -176,15 +160,12 @@ pub fn arc_extrude_work(
     edges: &mut [EdgeRow],
     faces: &mut [FaceRow],
     counters: &mut [u32; 3],
-    past: &mut [ArcRow],
-    pastedges: &mut [EdgeRow],
     x: u32,
     by: Move,
 ) -> Answer
-    requires { ⌜ (length (now past) ≡ length (now arcs)) × (length (now pastedges) ≡ length (now edges)) ⌝ }
     ensures { λ r. ⌜
         (step (meshAfter vertices positions arcs edges faces counters) r
-        ≡ arcExtrudeWork (meshBefore vertices positions arcs edges faces counters) x by)
+        ≡ arcExtrudeWorkBy searching (meshBefore vertices positions arcs edges faces counters) x by)
         ⌝ }
 {
     let b = rows::cell6(arcs, x, 1);
@@ -195,19 +176,6 @@ pub fn arc_extrude_work(
     let second = counters[0];
     let other = points::moved(points::position_at(positions, a), by);
     let d = edges::vertex::new_vertex(vertices, positions, counters, 0, other);
-    let told = joined(
-        vertices,
-        arcs,
-        edges,
-        faces,
-        counters,
-        past,
-        pastedges,
-        x,
-        a,
-        b,
-        c,
-        d,
-    );
+    let told = joined(vertices, arcs, edges, faces, counters, x, a, b, c, d);
     pieces::answering(Answer::Arc(first, second), told)
 }

@@ -13,12 +13,11 @@ use rules::VertexRow;
 use tables::answers;
 ghost use mathlib.Core.Path.{_≡_};
 ghost use mathlib.Core.List.{List};
-ghost use lib.ListN.{length};
 ghost use lib.Ieee.{Float};
 ghost use Rattle.rules.specs.Mesh.{listOf};
 ghost use Rattle.rules.specs.Lent.{unlent, meshBefore, meshAfter};
 ghost use Rattle.rules.specs.Step.{step};
-ghost use Rattle.rules.specs.Insert.{insertFace};
+ghost use Rattle.makers.specs.Makers.{searching, insertFaceBy};
 ghost use Rattle.edits.specs.Known.{Known};
 
 pub fn insert_face(
@@ -27,20 +26,17 @@ pub fn insert_face(
     edges: &mut [EdgeRow],
     faces: &mut [FaceRow],
     counters: &mut [u32; 3],
-    past: &mut [ArcRow],
-    pastedges: &mut [EdgeRow],
     seen: &[bool; MARKS],
     near: &[u32; NEAR],
     around: Around,
     per: Links,
     mark: u32,
 ) -> Answer
-    requires { ⌜ (length (now past) ≡ length (now arcs)) × (length (now pastedges) ≡ length (now edges)) ⌝ }
     requires { ⌜ Known (now arcs) (now edges) (now faces) (now seen) (now near) around ⌝ }
     ensures { λ r. ⌜
         ((p : List (List Float)) →
         step (meshAfter vertices (unlent p) arcs edges faces counters) r
-        ≡ insertFace (meshBefore vertices (unlent p) arcs edges faces counters) (listOf per) mark)
+        ≡ insertFaceBy searching (meshBefore vertices (unlent p) arcs edges faces counters) (listOf per) mark)
         ⌝ }
 {
     lists::known_few(per);
@@ -58,8 +54,6 @@ pub fn insert_face(
         edges,
         faces,
         counters,
-        past,
-        pastedges,
         per,
         found,
         from,

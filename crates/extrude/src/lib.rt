@@ -28,8 +28,8 @@ ghost use Rattle.rules.specs.Table.{Table, upTo};
 ghost use Rattle.rules.specs.Mesh.{mesh, linksOf, listOf};
 ghost use Rattle.rules.specs.Lent.{unlent, meshBefore, meshAfter};
 ghost use Rattle.rules.specs.Step.{step, andThen, answering};
-ghost use Rattle.rules.specs.Insert.{insertFace};
-ghost use Rattle.rules.specs.Extrude.{copies, wall, extrudeWork};
+ghost use Rattle.rules.specs.Extrude.{copies, wall};
+ghost use Rattle.makers.specs.Makers.{searching, insertFaceBy, extrudeWorkBy};
 ghost use Rattle.edits.specs.Each.{eachIn};
 ghost use Rattle.edits.specs.Known.{Known};
 
@@ -84,20 +84,17 @@ fn walls_in(
     edges: &mut [EdgeRow],
     faces: &mut [FaceRow],
     counters: &mut [u32; 3],
-    past: &mut [ArcRow],
-    pastedges: &mut [EdgeRow],
     seen: &[bool; MARKS],
     near: &[u32; NEAR],
     around: Around,
     vs: Links,
     ds: Links,
 ) -> Answer
-    requires { ⌜ (length (now past) ≡ length (now arcs)) × (length (now pastedges) ≡ length (now edges)) ⌝ }
     requires { ⌜ Known (now arcs) (now edges) (now faces) (now seen) (now near) around ⌝ }
     ensures { λ r. ⌜
         ((p : List (List Float)) →
         step (meshAfter vertices (unlent p) arcs edges faces counters) r
-        ≡ eachIn (λ i a. insertFace a (wall (listOf vs) (listOf ds) i) 0) (length (listOf vs))
+        ≡ eachIn (λ i a. insertFaceBy searching a (wall (listOf vs) (listOf ds) i) 0) (length (listOf vs))
         (meshBefore vertices (unlent p) arcs edges faces counters))
         ⌝ }
 {
@@ -110,8 +107,6 @@ fn walls_in(
             edges,
             faces,
             counters,
-            past,
-            pastedges,
             seen,
             near,
             around,
@@ -133,18 +128,15 @@ fn top_and_walls(
     edges: &mut [EdgeRow],
     faces: &mut [FaceRow],
     counters: &mut [u32; 3],
-    past: &mut [ArcRow],
-    pastedges: &mut [EdgeRow],
     vs: Links,
     ds: Links,
 ) -> Answer
-    requires { ⌜ (length (now past) ≡ length (now arcs)) × (length (now pastedges) ≡ length (now edges)) ⌝ }
     ensures { λ r. ⌜
         ((p : List (List Float)) →
         step (meshAfter vertices (unlent p) arcs edges faces counters) r
         ≡ answering Done
-        (upTo (λ i s. andThen s (λ a. insertFace a (wall (listOf vs) (listOf ds) i) 0)) (length (listOf vs))
-        (insertFace (meshBefore vertices (unlent p) arcs edges faces counters) (listOf ds) 0)))
+        (upTo (λ i s. andThen s (λ a. insertFaceBy searching a (wall (listOf vs) (listOf ds) i) 0)) (length (listOf vs))
+        (insertFaceBy searching (meshBefore vertices (unlent p) arcs edges faces counters) (listOf ds) 0)))
         ⌝ }
 {
     lists::known_few(vs);
@@ -158,8 +150,6 @@ fn top_and_walls(
         edges,
         faces,
         counters,
-        past,
-        pastedges,
         &seen,
         &links,
         around,
@@ -175,8 +165,6 @@ fn top_and_walls(
         edges,
         faces,
         counters,
-        past,
-        pastedges,
         &seen,
         &links,
         around,
@@ -193,31 +181,18 @@ pub fn extrude_work(
     edges: &mut [EdgeRow],
     faces: &mut [FaceRow],
     counters: &mut [u32; 3],
-    past: &mut [ArcRow],
-    pastedges: &mut [EdgeRow],
     f: u32,
     by: Move,
 ) -> Answer
-    requires { ⌜ (length (now past) ≡ length (now arcs)) × (length (now pastedges) ≡ length (now edges)) ⌝ }
     ensures { λ r. ⌜
         (step (meshAfter vertices positions arcs edges faces counters) r
-        ≡ extrudeWork (meshBefore vertices positions arcs edges faces counters) f by)
+        ≡ extrudeWorkBy searching (meshBefore vertices positions arcs edges faces counters) f by)
         ⌝ }
 {
     let vs = checks::rings::vertices_of(arcs, faces, f);
     let key = counters[2];
     edges::face::remove_face(arcs, faces, f);
     let ds = copies_in(vertices, positions, counters, by, vs);
-    let told = top_and_walls(
-        vertices,
-        arcs,
-        edges,
-        faces,
-        counters,
-        past,
-        pastedges,
-        vs,
-        ds,
-    );
+    let told = top_and_walls(vertices, arcs, edges, faces, counters, vs, ds);
     pieces::answering(Answer::Key(key), told)
 }

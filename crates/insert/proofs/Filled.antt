@@ -5,7 +5,7 @@ use native.Mathlib.Omega.{arith}
 use native.Mathlib.Decide.{ℕ-discrete, decLt}
 use mathlib.Core.Path.{_≡_, refl, ap, sym, subst, _∙_}
 use mathlib.Core.Bool.{Bool, true, false, cond}
-use mathlib.Core.List.{List, [], _∷_, map}
+use mathlib.Core.List.{List, [], _∷_}
 use lib.ListN.{length, getD, set, length-set}
 use lib.Seq.{getD-set-other}
 use lib.Dec.{eqb}
@@ -15,13 +15,17 @@ use Rattle.rules.specs.Table.{Table, cell, put, putRow, freeRow, upTo, after, o
 use Rattle.rules.specs.Mesh.{Mesh, previous, next, face, opposite, findArc}
 use Rattle.rules.specs.Link.{connect, setFace, newArc, newEdge, getOrInsertEdge}
 use Rattle.rules.specs.Step.{Step, step, accepted, checked}
-use Rattle.rules.specs.Insert.{arcAt, firstFaceless, edgesIn, newFace, interior, exteriorAt, exterior, putFace, listsOf, insertChecks, insertWork, insertFace}
-use Rattle.rules.specs.Edit.{corners, arcBridgeChecks, arcBridgeWork, arcBridge}
+use Rattle.rules.specs.Insert.{arcAt, edgesIn, newFace, interior, insertChecks}
+use Rattle.rules.specs.Edit.{corners, arcBridgeChecks}
 use Rattle.tables.proofs.Cells.{cell-none, cell-here, row-none, row-here}
 use Rattle.edges.specs.Free.{UsedBefore}
 use Rattle.edges.proofs.Searches.{used-free, free-unused}
 use Rattle.pairs.specs.Near.{FilledUp}
 use Rattle.pairs.proofs.Filled.{filled-same, filled-trans}
+use Rattle.makers.specs.Search.{Sought, arcsOn, soughtFor, exteriorSoughtAt, exteriorSought}
+use Rattle.makers.specs.Makers.{searching, putFaceBy, insertWorkBy, insertFaceBy, arcBridgeWorkBy, arcBridgeBy}
+use Rattle.insert.specs.Sought.{putSought}
+use Rattle.insert.proofs.Loops.{by-sought}
 
 -- ---- one table
 
@@ -181,29 +185,33 @@ filled-interior per f m = in-turns _ turn (length per) m
         let y = arcAt a per (after (length per) i) in
         and-then a (connect a x y) (setFace (connect a x y) x f) (filled-connect a x y) (filled-face (connect a x y) x f)
 
-filled-exterior : (per : List ℕ) (lists : List (List ℕ)) (m : Mesh) → Filled m (exterior per lists m)
-unfolding exterior exteriorAt
-filled-exterior per lists m = in-turns (exteriorAt per lists) turn (length per) m
+filled-exterior : (per : List ℕ) (s : Sought) (m : Mesh) → Filled m (exteriorSought per s m)
+unfolding exteriorSought exteriorSoughtAt
+filled-exterior per s m = in-turns (exteriorSoughtAt per s) turn (length per) m
   where
-    turn : (i : ℕ) (a : Mesh) → Filled a (exteriorAt per lists i a)
+    turn : (i : ℕ) (a : Mesh) → Filled a (exteriorSoughtAt per s i a)
     turn i a =
         let x = arcAt a per i in
         let o = opposite a x in
-        let after-o = orElse (firstFaceless a (getD lists i [])) (opposite a (previous a x)) in
-        let before-o = orElse (firstFaceless a (map (opposite a) (getD lists (after (length per) i) []))) (opposite a (next a x)) in
+        let after-o = orElse (getD (s .outs) i 0) (opposite a (previous a x)) in
+        let before-o = orElse (getD (s .backs) (after (length per) i) 0) (opposite a (next a x)) in
         let one = connect a o after-o in
         let two = connect one before-o o in
         either-way (eqb (face a o) 0) a two a (and-then a one two (filled-connect a o after-o) (filled-connect one before-o o)) (as-it-is a)
 
-pub filled-put-face : (m : Mesh) (per : List ℕ) (lists : List (List ℕ)) (mark : ℕ) → Filled m (putFace m per lists mark)
-unfolding putFace
-filled-put-face m per lists mark =
+pub filled-sought : (s : Sought) (m : Mesh) (per : List ℕ) (mark : ℕ) → Filled m (putSought s m per mark)
+unfolding putSought
+filled-sought s m per mark =
     let m₁ = edgesIn per m in
     let m₂ = newFace m₁ (arcAt m₁ per 0) mark in
     let m₃ = interior per (freeRow (m₁ .faces)) m₂ in
-    and-then m m₁ (exterior per lists m₃) (filled-edges per m)
-    (and-then m₁ m₂ (exterior per lists m₃) (filled-record m₁ (arcAt m₁ per 0) mark)
-    (and-then m₂ m₃ (exterior per lists m₃) (filled-interior per (freeRow (m₁ .faces)) m₂) (filled-exterior per lists m₃)))
+    and-then m m₁ (exteriorSought per s m₃) (filled-edges per m)
+    (and-then m₁ m₂ (exteriorSought per s m₃) (filled-record m₁ (arcAt m₁ per 0) mark)
+    (and-then m₂ m₃ (exteriorSought per s m₃) (filled-interior per (freeRow (m₁ .faces)) m₂) (filled-exterior per s m₃)))
+
+-- by the code's makers
+pub filled-put-face : (old : Mesh) (soon : List ℕ) (m : Mesh) (per : List ℕ) (mark : ℕ) → Filled m (putFaceBy searching old soon m per mark)
+filled-put-face old soon m per mark = subst (Filled m) (sym (by-sought old soon m per mark)) (filled-sought (soughtFor old soon per) m per mark)
 
 -- ---- an insert with its checks, and an arc bridge: refused or not
 
@@ -215,14 +223,14 @@ filled-checked m a s f = go (accepted a)
     go true = f
     go false = as-it-is m
 
-filled-work : (m : Mesh) (per : List ℕ) (mark : ℕ) → Filled m (insertWork m per mark .tables)
-unfolding insertWork
-filled-work m per mark = filled-put-face m per (listsOf m per) mark
+filled-work : (m : Mesh) (per : List ℕ) (mark : ℕ) → Filled m (insertWorkBy searching m per mark .tables)
+unfolding insertWorkBy
+filled-work m per mark = filled-put-face m (arcsOn m per) m per mark
 
-pub filled-insert : (m : Mesh) (per : List ℕ) (mark : ℕ) → Filled m (insertFace m per mark .tables)
-unfolding insertFace
-filled-insert m per mark = filled-checked m (insertChecks m per per) (insertWork m per mark) (filled-work m per mark)
+pub filled-insert : (m : Mesh) (per : List ℕ) (mark : ℕ) → Filled m (insertFaceBy searching m per mark .tables)
+unfolding insertFaceBy
+filled-insert m per mark = filled-checked m (insertChecks m per per) (insertWorkBy searching m per mark) (filled-work m per mark)
 
-pub filled-bridge : (m : Mesh) (x y : ℕ) → Filled m (arcBridge m x y .tables)
-unfolding arcBridge arcBridgeWork
-filled-bridge m x y = filled-checked m (arcBridgeChecks m x y) (arcBridgeWork m x y) (filled-work m (corners m x y) 0)
+pub filled-bridge : (m : Mesh) (x y : ℕ) → Filled m (arcBridgeBy searching m x y .tables)
+unfolding arcBridgeBy arcBridgeWorkBy
+filled-bridge m x y = filled-checked m (arcBridgeChecks m x y) (arcBridgeWorkBy searching m x y) (filled-work m (corners m x y) 0)

@@ -4,18 +4,19 @@ use Prim.Native.Nat.{ℕ, zero, suc, _+_, _-_, _≤_}
 use native.Mathlib.Omega.{arith}
 use mathlib.Core.Path.{_≡_, refl, ap, sym, _∙_}
 use mathlib.Core.Bool.{Bool, true, false, cond, _&&_}
-use mathlib.Core.List.{List, [], _∷_, _++_, map}
+use mathlib.Core.List.{List, [], _∷_, _++_}
 use lib.ListN.{length, getD, set, length-set}
 use lib.Seq.{getD-set-other}
 use lib.Dec.{eqb}
 use Rattle.rules.specs.Table.{Table, cell, put, firstRow, upTo, after, linkInto, orElse, freeRow}
-use Rattle.rules.specs.Mesh.{Mesh, with-arcs, leading, oppositeOf, joins, arcBetween}
-use Rattle.rules.specs.Link.{connect, setFace, turnIn, outgoing, arcCount}
-use Rattle.rules.specs.Insert.{arcAt, interior, exterior, exteriorAt, facelessIn, listsOf, edgesIn, newFace, putFace}
-use Rattle.rules.proofs.Walks.{walk-none}
+use Rattle.rules.specs.Mesh.{Mesh, with-arcs, oppositeOf, joins, arcBetween}
+use Rattle.rules.specs.Link.{connect, setFace}
+use Rattle.rules.specs.Insert.{arcAt, interior, edgesIn, newFace}
+use Rattle.makers.specs.Search.{Sought, exteriorSoughtAt, exteriorSought}
 use Rattle.pairs.specs.Pairs.{listBelow, pairArc, arcsOf}
 use Rattle.pairs.proofs.Listed.{arcs-length, pair-listed}
-use Rattle.insert.specs.Perimeter.{listFrom, listsFrom, interiorTo, interiorBy, exteriorTo, exteriorBy}
+use Rattle.insert.specs.Perimeter.{interiorTo, interiorBy, exteriorTo, exteriorBy}
+use Rattle.insert.specs.Sought.{putSought}
 
 -- ---- an arc's ends
 
@@ -75,12 +76,12 @@ ends-two t o a b =
     ends-trans (put t₃ o 3 b) t₃ t (ends-put t₃ o 3 b (omega arith))
     (ends-trans t₃ t₂ t (ends-put t₂ b 2 o (omega arith)) (ends-trans t₂ t₁ t (ends-put t₁ a 3 o (omega arith)) (ends-put t o 2 a (omega arith))))
 
-ends-exterior : (edges : Table) (out back : List ℕ) (x : ℕ) (t : Table) → SameEnds (exteriorTo edges out back x t) t
+ends-exterior : (edges : Table) (out back x : ℕ) (t : Table) → SameEnds (exteriorTo edges out back x t) t
 unfolding exteriorTo
 ends-exterior edges out back x t =
     let o = oppositeOf t edges x in
-    let a = orElse (facelessIn t out) (oppositeOf t edges (cell t x 3)) in
-    let b = orElse (facelessIn t (map (oppositeOf t edges) back)) (oppositeOf t edges (cell t x 2)) in
+    let a = orElse out (oppositeOf t edges (cell t x 3)) in
+    let b = orElse back (oppositeOf t edges (cell t x 2)) in
     ends-cond (eqb (cell t o 4) 0) (put (put (put (put t o 2 a) a 3 o) b 2 o) o 3 b) t t (ends-two t o a b) (ends-refl t)
 
 -- ---- a loop over the perimeter that writes arcs, by the arcs found once
@@ -103,7 +104,7 @@ module _ (m : Mesh) (onMesh : ℕ → Mesh → Mesh) (onArcs : ℕ → Table →
 found-once : (m : Mesh) (per : List ℕ) (i : ℕ) (t : Table) → SameEnds t (m .arcs) → pairArc t per i ≡ getD (arcsOf (m .arcs) per) i 0
 found-once m per i t s = pair-ends t (m .arcs) per i s ∙ sym (pair-listed (m .arcs) per i)
 
-pub interior-by : (m : Mesh) (per : List ℕ) (f : ℕ) → interior per f m ≡ with-arcs m (interiorBy (arcsOf (m .arcs) per) f (m .arcs))
+interior-by : (m : Mesh) (per : List ℕ) (f : ℕ) → interior per f m ≡ with-arcs m (interiorBy (arcsOf (m .arcs) per) f (m .arcs))
 unfolding interior interiorBy interiorTo arcAt pairArc connect setFace
 interior-by m per f =
     rw (arcs-length (m .arcs) per)
@@ -120,13 +121,13 @@ interior-by m per f =
         let y = found-once m per (after (length per) i) t s in
         λ j. with-arcs m (interiorTo (x j) (y j) f t)
 
-pub exterior-by : (m : Mesh) (per : List ℕ) (lists : List (List ℕ)) → exterior per lists m ≡ with-arcs m (exteriorBy (m .edges) lists (arcsOf (m .arcs) per) (m .arcs))
-unfolding exterior exteriorAt exteriorBy exteriorTo arcAt pairArc connect
-exterior-by m per lists =
+exterior-by : (m : Mesh) (per : List ℕ) (s : Sought) → exteriorSought per s m ≡ with-arcs m (exteriorBy (m .edges) (s .outs) (s .backs) (arcsOf (m .arcs) per) (m .arcs))
+unfolding exteriorSought exteriorSoughtAt exteriorBy exteriorTo arcAt pairArc connect
+exterior-by m per s =
     rw (arcs-length (m .arcs) per)
-    (loop-arcs m (exteriorAt per lists)
-    (λ i u. exteriorTo (m .edges) (getD lists i []) (getD lists (after (length per) i) []) (getD xs i 0) u)
-    at-pair (λ i t. ends-exterior (m .edges) (getD lists i []) (getD lists (after (length per) i) []) (getD xs i 0) t) (length per))
+    (loop-arcs m (exteriorSoughtAt per s)
+    (λ i u. exteriorTo (m .edges) (getD (s .outs) i 0) (getD (s .backs) (after (length per) i) 0) (getD xs i 0) u)
+    at-pair (λ i t. ends-exterior (m .edges) (getD (s .outs) i 0) (getD (s .backs) (after (length per) i) 0) (getD xs i 0) t) (length per))
   where
     xs : List ℕ
     xs = arcsOf (m .arcs) per
@@ -135,29 +136,14 @@ exterior-by m per lists =
     with-cond true t u = refl
     with-cond false t u = refl
 
-    at-pair : (i : ℕ) (t : Table) → SameEnds t (m .arcs) → exteriorAt per lists i (with-arcs m t) ≡ with-arcs m (exteriorTo (m .edges) (getD lists i []) (getD lists (after (length per) i) []) (getD xs i 0) t)
-    at-pair i t s =
+    at-pair : (i : ℕ) (t : Table) → SameEnds t (m .arcs) → exteriorSoughtAt per s i (with-arcs m t) ≡ with-arcs m (exteriorTo (m .edges) (getD (s .outs) i 0) (getD (s .backs) (after (length per) i) 0) (getD xs i 0) t)
+    at-pair i t e =
         let w = arcAt (with-arcs m t) per i in
         let o = oppositeOf t (m .edges) w in
-        let a = orElse (facelessIn t (getD lists i [])) (oppositeOf t (m .edges) (cell t w 3)) in
-        let b = orElse (facelessIn t (map (oppositeOf t (m .edges)) (getD lists (after (length per) i) []))) (oppositeOf t (m .edges) (cell t w 2)) in
+        let a = orElse (getD (s .outs) i 0) (oppositeOf t (m .edges) (cell t w 3)) in
+        let b = orElse (getD (s .backs) (after (length per) i) 0) (oppositeOf t (m .edges) (cell t w 2)) in
         with-cond (eqb (cell t o 4) 0) (put (put (put (put t o 2 a) a 3 o) b 2 o) o 3 b) t
-        ∙ ap (λ (x : ℕ). with-arcs m (exteriorTo (m .edges) (getD lists i []) (getD lists (after (length per) i) []) x t)) (found-once m per i t s)
-
--- ---- lists taken before the edges are in
-
--- those of the mesh are walked in its tables, from its vertices' leading arcs
-pub lists-are : (m : Mesh) (per : List ℕ) → listsOf m per ≡ listsFrom (m .arcs) (m .edges) (arcCount m) (map (leading m) per)
-unfolding listsOf outgoing listsFrom listFrom
-lists-are m [] = refl
-lists-are m (v ∷ vs) = ap {B = List (List ℕ)} (λ r. outgoing m v ∷ r) (lists-are m vs)
-
--- the list at a place
-pub list-at-place : (past pastedges : Table) (bound : ℕ) (leads : List ℕ) (i : ℕ) → getD (listsFrom past pastedges bound leads) i [] ≡ listFrom past pastedges bound (getD leads i 0)
-unfolding listsFrom listFrom
-list-at-place past pastedges bound [] i = sym (walk-none (turnIn past pastedges) 0 bound)
-list-at-place past pastedges bound (x ∷ xs) zero = refl
-list-at-place past pastedges bound (x ∷ xs) (suc i) = list-at-place past pastedges bound xs i
+        ∙ ap (λ (x : ℕ). with-arcs m (exteriorTo (m .edges) (getD (s .outs) i 0) (getD (s .backs) (after (length per) i) 0) x t)) (found-once m per i t e)
 
 -- ---- the whole insert
 
@@ -181,21 +167,21 @@ ends-interiors xs f t =
     ends-upTo (λ i u. interiorTo (getD xs i 0) (getD xs (after (length xs) i) 0) f u) (length xs) t (λ i u. ends-interior (getD xs i 0) (getD xs (after (length xs) i) 0) f u)
 
 -- interior and exterior of a mesh, by the arcs found once
-both-by : (m : Mesh) (per : List ℕ) (lists : List (List ℕ)) (f : ℕ) → exterior per lists (interior per f m) ≡ with-arcs m (exteriorBy (m .edges) lists (arcsOf (m .arcs) per) (interiorBy (arcsOf (m .arcs) per) f (m .arcs)))
-both-by m per lists f =
+both-by : (m : Mesh) (per : List ℕ) (s : Sought) (f : ℕ) → exteriorSought per s (interior per f m) ≡ with-arcs m (exteriorBy (m .edges) (s .outs) (s .backs) (arcsOf (m .arcs) per) (interiorBy (arcsOf (m .arcs) per) f (m .arcs)))
+both-by m per s f =
     let xs = arcsOf (m .arcs) per in
     let t = interiorBy xs f (m .arcs) in
-    ap (exterior per lists) (interior-by m per f)
-    ∙ exterior-by (with-arcs m t) per lists
-    ∙ ap (λ (ys : List ℕ). with-arcs m (exteriorBy (m .edges) lists ys t)) (arcs-ends t (m .arcs) per (ends-interiors xs f (m .arcs)))
+    ap (exteriorSought per s) (interior-by m per f)
+    ∙ exterior-by (with-arcs m t) per s
+    ∙ ap (λ (ys : List ℕ). with-arcs m (exteriorBy (m .edges) (s .outs) (s .backs) ys t)) (arcs-ends t (m .arcs) per (ends-interiors xs f (m .arcs)))
 
 -- the edges, the face with the first perimeter arc, the interior, then the exterior
-pub put-face-by : (m : Mesh) (per : List ℕ) (lists : List (List ℕ)) (mark : ℕ) → putFace m per lists mark
+pub put-sought-by : (m : Mesh) (per : List ℕ) (s : Sought) (mark : ℕ) → putSought s m per mark
     ≡ (let m₁ = edgesIn per m in
     let m₂ = newFace m₁ (pairArc (m₁ .arcs) per 0) mark in
     let xs = arcsOf (m₁ .arcs) per in
-    with-arcs m₂ (exteriorBy (m₁ .edges) lists xs (interiorBy xs (freeRow (m₁ .faces)) (m₁ .arcs))))
-unfolding putFace newFace arcAt pairArc
-put-face-by m per lists mark =
+    with-arcs m₂ (exteriorBy (m₁ .edges) (s .outs) (s .backs) xs (interiorBy xs (freeRow (m₁ .faces)) (m₁ .arcs))))
+unfolding putSought newFace arcAt pairArc
+put-sought-by m per s mark =
     let m₁ = edgesIn per m in
-    both-by (newFace m₁ (pairArc (m₁ .arcs) per 0) mark) per lists (freeRow (m₁ .faces))
+    both-by (newFace m₁ (pairArc (m₁ .arcs) per 0) mark) per s (freeRow (m₁ .faces))

@@ -1,1 +1,2 @@
 pub mod Perimeter
+pub mod Sought

@@ -1,4 +1,4 @@
-// The parts of a face insert: the leading arcs, the edges, the interior, the exterior. Document 01's rule 5:
+// The parts of a face insert: the edges, the interior, the exterior. Document 01's rule 5:
 // "Then the edges, the face with the first perimeter arc, and the interior: link, then face, arc by arc. Then the exterior."
 
 use edges::edge;
@@ -10,41 +10,23 @@ use rules::RING;
 use rules::VertexRow;
 use tables::links;
 use tables::rows;
-use walks::lists as vertexlists;
 ghost use mathlib.Core.Path.{_≡_};
 ghost use mathlib.Core.Bool.{false};
-ghost use mathlib.Core.List.{List, map};
+ghost use mathlib.Core.List.{List};
 ghost use Prim.Native.Nat.{ℕ};
-ghost use lib.ListN.{getD};
 ghost use lib.Ieee.{Float};
-ghost use Rattle.rules.specs.Table.{Table, cell, has};
-ghost use Rattle.rules.specs.Mesh.{linksOf, listOf};
+ghost use Rattle.rules.specs.Table.{Table, has};
+ghost use Rattle.rules.specs.Mesh.{listOf};
 ghost use Rattle.rules.specs.Lent.{unlent, meshBefore, meshAfter};
 ghost use Rattle.rules.specs.Insert.{edgesIn};
 ghost use Rattle.edges.specs.Free.{UsedBefore};
 ghost use Rattle.pairs.specs.Pairs.{arcsOf};
-ghost use Rattle.insert.specs.Perimeter.{edgeIn, IsPair, Asked, Tells, listFrom, listsFrom, interiorBy, exteriorTo, exteriorBy};
+ghost use Rattle.insert.specs.Perimeter.{edgeIn, IsPair, Asked, Tells, interiorBy, exteriorTo, exteriorBy};
 
 // The edge of a pair is in: from where the next one's rows may be looked for, and the pair's arc, 0 where it is not known.
 struct Edged {
     from: Lowest,
     arc: u32,
-}
-
-// The leading arcs of the perimeter's vertices.
-pub fn leading_arcs(vertices: &[VertexRow], per: Links) -> Links
-    ensures { λ r. ⌜ r ≡ linksOf (map (λ v. cell (now (vertices .entry)) v 1) (listOf per)) ⌝ }
-{
-    let n = lists::size(per);
-    lists::known_few(per);
-    let from = per.at;
-    let mut at = [0u32; RING];
-    let mut i: usize = 0;
-    while i < n {
-        at[i] = rows::cell2(vertices, from[i], 1);
-        i += 1;
-    }
-    Links { at, len: n }
 }
 
 // The first arc x of a new edge from a to b, where it is known to be the arc from a to b: not from none, and not from a vertex to itself.
@@ -170,70 +152,30 @@ pub fn interior(arcs: &mut [ArcRow], xs: Links, face: u32)
     }
 }
 
-// The exterior at the arc x = (a,b), if its opposite has no face: a's outgoing list started at out, b's at back.
-fn exterior_at(
-    arcs: &mut [ArcRow],
-    edges: &[EdgeRow],
-    past: &[ArcRow],
-    pastedges: &[EdgeRow],
-    bound: usize,
-    out: u32,
-    back: u32,
-    x: u32,
-)
-    ensures { λ _. ⌜
-        now (arcs .exit)
-        ≡ exteriorTo (now (edges .entry)) (listFrom (now (past .entry)) (now (pastedges .entry)) bound out)
-        (listFrom (now (past .entry)) (now (pastedges .entry)) bound back) x (now (arcs .entry))
-        ⌝ }
+// The exterior at the arc x = (a,b), if its opposite has no face: out was found in a's list, back in b's, 0 for none.
+fn exterior_at(arcs: &mut [ArcRow], edges: &[EdgeRow], out: u32, back: u32, x: u32)
+    ensures { λ _. ⌜ now (arcs .exit) ≡ exteriorTo (now (edges .entry)) out back x (now (arcs .entry)) ⌝ }
 {
     let o = rows::opposite(arcs, edges, x);
     if rows::cell6(arcs, o, 4) != 0 {
         return;
     }
-    let first = pairs::or_else(
-        vertexlists::faceless_out(arcs, past, pastedges, out, bound),
-        rows::opposite(arcs, edges, rows::cell6(arcs, x, 3)),
-    );
-    let last = pairs::or_else(
-        vertexlists::faceless_in(arcs, edges, past, pastedges, back, bound),
-        rows::opposite(arcs, edges, rows::cell6(arcs, x, 2)),
-    );
+    let first = pairs::or_else(out, rows::opposite(arcs, edges, rows::cell6(arcs, x, 3)));
+    let last = pairs::or_else(back, rows::opposite(arcs, edges, rows::cell6(arcs, x, 2)));
     links::connect(arcs, o, first);
     links::connect(arcs, last, o);
 }
 
-// The exterior, pair by pair.
-pub fn exterior(
-    arcs: &mut [ArcRow],
-    edges: &[EdgeRow],
-    past: &[ArcRow],
-    pastedges: &[EdgeRow],
-    bound: usize,
-    leads: Links,
-    xs: Links,
-)
-    ensures { λ _. ⌜
-        now (arcs .exit)
-        ≡ exteriorBy (now (edges .entry)) (listsFrom (now (past .entry)) (now (pastedges .entry)) bound (listOf leads)) (listOf xs)
-        (now (arcs .entry))
-        ⌝ }
+// The exterior, pair by pair: outs and backs were found in the lists of the perimeter's vertices.
+pub fn exterior(arcs: &mut [ArcRow], edges: &[EdgeRow], outs: Links, backs: Links, xs: Links)
+    ensures { λ _. ⌜ now (arcs .exit) ≡ exteriorBy (now (edges .entry)) (listOf outs) (listOf backs) (listOf xs) (now (arcs .entry)) ⌝ }
 {
     let n = lists::size(xs);
     let mut i: usize = 0;
     while i < n {
-        let out = lists::item(leads, i);
-        let back = lists::item(leads, lists::place_after(n, i));
-        exterior_at(
-            arcs,
-            edges,
-            past,
-            pastedges,
-            bound,
-            out,
-            back,
-            lists::item(xs, i),
-        );
+        let out = lists::item(outs, i);
+        let back = lists::item(backs, lists::place_after(n, i));
+        exterior_at(arcs, edges, out, back, lists::item(xs, i));
         i += 1;
     }
 }

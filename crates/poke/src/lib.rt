@@ -26,8 +26,7 @@ ghost use Rattle.rules.specs.Table.{after};
 ghost use Rattle.rules.specs.Mesh.{linksOf, listOf};
 ghost use Rattle.rules.specs.Lent.{unlent, meshBefore, meshAfter};
 ghost use Rattle.rules.specs.Step.{step};
-ghost use Rattle.rules.specs.Insert.{insertFace};
-ghost use Rattle.rules.specs.Edit.{pokeWork};
+ghost use Rattle.makers.specs.Makers.{searching, insertFaceBy, pokeWorkBy};
 ghost use Rattle.edits.specs.Each.{eachIn};
 ghost use Rattle.edits.specs.Known.{Known};
 
@@ -51,8 +50,6 @@ fn parts_in(
     edges: &mut [EdgeRow],
     faces: &mut [FaceRow],
     counters: &mut [u32; 3],
-    past: &mut [ArcRow],
-    pastedges: &mut [EdgeRow],
     seen: &[bool; MARKS],
     near: &[u32; NEAR],
     around: Around,
@@ -60,13 +57,12 @@ fn parts_in(
     c: u32,
     mark: u32,
 ) -> Answer
-    requires { ⌜ (length (now past) ≡ length (now arcs)) × (length (now pastedges) ≡ length (now edges)) ⌝ }
     requires { ⌜ Known (now arcs) (now edges) (now faces) (now seen) (now near) around ⌝ }
     ensures { λ r. ⌜
         ((p : List (List Float)) →
         step (meshAfter vertices (unlent p) arcs edges faces counters) r
-        ≡ eachIn (λ i a. insertFace a (getD (listOf vs) i 0 ∷ getD (listOf vs) (after (length (listOf vs)) i) 0 ∷ c ∷ []) mark) (length (listOf vs))
-        (meshBefore vertices (unlent p) arcs edges faces counters))
+        ≡ eachIn (λ i a. insertFaceBy searching a (getD (listOf vs) i 0 ∷ getD (listOf vs) (after (length (listOf vs)) i) 0 ∷ c ∷ []) mark)
+        (length (listOf vs)) (meshBefore vertices (unlent p) arcs edges faces counters))
         ⌝ }
 {
     let n = lists::size(vs);
@@ -78,8 +74,6 @@ fn parts_in(
             edges,
             faces,
             counters,
-            past,
-            pastedges,
             seen,
             near,
             around,
@@ -101,18 +95,15 @@ fn parts_near(
     edges: &mut [EdgeRow],
     faces: &mut [FaceRow],
     counters: &mut [u32; 3],
-    past: &mut [ArcRow],
-    pastedges: &mut [EdgeRow],
     vs: Links,
     c: u32,
     mark: u32,
 ) -> Answer
-    requires { ⌜ (length (now past) ≡ length (now arcs)) × (length (now pastedges) ≡ length (now edges)) ⌝ }
     ensures { λ r. ⌜
         ((p : List (List Float)) →
         step (meshAfter vertices (unlent p) arcs edges faces counters) r
-        ≡ eachIn (λ i a. insertFace a (getD (listOf vs) i 0 ∷ getD (listOf vs) (after (length (listOf vs)) i) 0 ∷ c ∷ []) mark) (length (listOf vs))
-        (meshBefore vertices (unlent p) arcs edges faces counters))
+        ≡ eachIn (λ i a. insertFaceBy searching a (getD (listOf vs) i 0 ∷ getD (listOf vs) (after (length (listOf vs)) i) 0 ∷ c ∷ []) mark)
+        (length (listOf vs)) (meshBefore vertices (unlent p) arcs edges faces counters))
         ⌝ }
 {
     lists::known_few(vs);
@@ -127,8 +118,6 @@ fn parts_near(
         edges,
         faces,
         counters,
-        past,
-        pastedges,
         &seen,
         &links,
         around,
@@ -146,15 +135,12 @@ pub fn poke_work(
     edges: &mut [EdgeRow],
     faces: &mut [FaceRow],
     counters: &mut [u32; 3],
-    past: &mut [ArcRow],
-    pastedges: &mut [EdgeRow],
     f: u32,
     position: Position,
 ) -> Answer
-    requires { ⌜ (length (now past) ≡ length (now arcs)) × (length (now pastedges) ≡ length (now edges)) ⌝ }
     ensures { λ r. ⌜
         (step (meshAfter vertices positions arcs edges faces counters) r
-        ≡ pokeWork (meshBefore vertices positions arcs edges faces counters) f position)
+        ≡ pokeWorkBy searching (meshBefore vertices positions arcs edges faces counters) f position)
         ⌝ }
 {
     let vs = checks::rings::vertices_of(arcs, faces, f);
@@ -162,17 +148,6 @@ pub fn poke_work(
     let key = counters[0];
     edges::face::remove_face(arcs, faces, f);
     let c = edges::vertex::new_vertex(vertices, positions, counters, 0, position);
-    let told = parts_near(
-        vertices,
-        arcs,
-        edges,
-        faces,
-        counters,
-        past,
-        pastedges,
-        vs,
-        c,
-        mark,
-    );
+    let told = parts_near(vertices, arcs, edges, faces, counters, vs, c, mark);
     pieces::answering(Answer::Key(key), told)
 }

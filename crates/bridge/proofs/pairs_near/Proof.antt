@@ -8,28 +8,22 @@ near-edit-requires : tie.Need-near-edit-requires
 near-edit-requires c κs = omega (arith, c .before .before .before .before .before .before .before .before .before .size .ensures, c .before .before .before .before .before .before .before .before .before .before .known-few .ensures)
 
 pairs-in-requires : tie.Need-pairs-in-requires
-pairs-in-requires c κs = (c .before .before .before .before .before .before .before .before .before .before .before .before .before .before .before .before .before .before .before .before .before .pre, c .before .before .before .before .before .before .before .before .before .near-edit .ensures)
+pairs-in-requires c κs = c .before .before .before .before .before .before .before .near-edit .ensures
 
 same-length : tie.Need-same-length
-same-length c = c .before .before .before .before .before .before .pairs-in .kept .0
+same-length c = c .before .before .before .before .pairs-in .kept .0
 
 same-length-2 : tie.Need-same-length-2
-same-length-2 c = c .before .before .before .before .before .before .pairs-in .kept .1 .0
+same-length-2 c = c .before .before .before .before .pairs-in .kept .1 .0
 
 same-length-3 : tie.Need-same-length-3
-same-length-3 c = c .before .before .before .before .before .before .pairs-in .kept .1 .1 .0
+same-length-3 c = c .before .before .before .before .pairs-in .kept .1 .1 .0
 
 same-length-4 : tie.Need-same-length-4
-same-length-4 c = c .before .before .before .before .before .before .pairs-in .kept .1 .1 .1 .0
-
-same-length-5 : tie.Need-same-length-5
-same-length-5 c = c .before .before .before .before .before .before .pairs-in .kept .1 .1 .1 .1 .1 .0
-
-same-length-6 : tie.Need-same-length-6
-same-length-6 c = c .before .before .before .before .before .before .pairs-in .kept .1 .1 .1 .1 .1 .1 .0
+same-length-4 c = c .before .before .before .before .pairs-in .kept .1 .1 .1 .0
 
 returns : tie.Need-returns
-returns c = λ p. c .before .before .before .before .before .before .pairs-in .ensures p
+returns c = λ p. c .before .before .before .before .pairs-in .ensures p
 
 pub pairs-near-spec : {M : Type 1} → statement M
 pairs-near-spec =
@@ -45,6 +39,4 @@ pairs-near-spec =
     same-length-2
     same-length-3
     same-length-4
-    same-length-5
-    same-length-6
     returns)

@@ -1,30 +1,20 @@
-use Prim.Native.Nat.{ℕ}
-use mathlib.Core.Path.{_≡_, refl, ap, sym, _∙_}
-use mathlib.Core.List.{List}
-use lib.ListN.{getD}
-use Rattle.rules.specs.declared.Answer.the-variants.{Key, Mark}
-use Rattle.rules.specs.declared.Edit.{Edit}
-use Rattle.rules.specs.Table.{cell}
+use mathlib.Core.Path.{_∙_}
 use Rattle.rules.specs.Mesh.{Mesh, mesh}
-use Rattle.rules.specs.Step.{Step, step}
-use Rattle.rules.specs.Insert.{putFace, listsOf, insertWork}
-use Rattle.rules.specs.Edit.{remove, removeWork, splitWork, pokeWork, bridgeWork, arcBridgeWork}
-use Rattle.rules.specs.Extrude.{extrudeWork, arcExtrudeWork}
-use Rattle.rules.specs.Call.{work}
+use Rattle.makers.specs.Makers.{searching, arcBridgeWorkBy, workBy}
 use Rattle.checks.proofs.Between.{one-key, other-key}
 use borrow.Author.Needs.{needs}
 use Rattle.choice.proofs.arc_bridge.Statement.{statement}
 use Rattle.choice.proofs.arc_bridge.Tie as tie
 
 returns : tie.Need-returns
-unfolding work
+unfolding workBy
 returns c =
-    let x = c .before .before .before .before .before .before .before .before .before .before .before .before .before .before .before .before .args in
-    let four = c .before .before .before .before .before .before .before .before .before .before .before .before .before .before .four-by-keys in
+    let x = c .before .before .before .before .before .before .before .before .before .before .before .before .args in
+    let four = c .before .before .before .before .before .before .before .before .before .before .four-by-keys in
     λ p ks.
     let m : Mesh = mesh (x .vertices .now) p (x .arcs .now) (x .edges .now) (x .faces .now) (x .counters .now) in
-    c .before .before .before .before .before .before .arc-bridge-work .ensures p
-    ∙ (λ i. arcBridgeWork m (one-key m (x .a) (x .b) (x .c) (x .d) (four .result) (four .ensures) i) (other-key m (x .a) (x .b) (x .c) (x .d) (four .result) (four .ensures) i))
+    c .before .before .before .before .arc-bridge-work .ensures p
+    ∙ (λ i. arcBridgeWorkBy searching m (one-key m (x .a) (x .b) (x .c) (x .d) (four .result) (four .ensures) i) (other-key m (x .a) (x .b) (x .c) (x .d) (four .result) (four .ensures) i))
 
 pub arc-bridge-spec : {M : Type 1} → statement M
 arc-bridge-spec =
@@ -32,8 +22,6 @@ arc-bridge-spec =
     (tie.spec
     (λ c κs. search needs)
     (λ c κs. search needs)
-    (λ c. search needs)
-    (λ c. search needs)
     (λ c. search needs)
     (λ c. search needs)
     (λ c. search needs)

@@ -1,25 +1,16 @@
 use Prim.Native.Nat.{ℕ}
-use mathlib.Core.Path.{_≡_, refl, ap, sym, _∙_}
-use mathlib.Core.List.{List}
-use lib.ListN.{getD}
-use Rattle.rules.specs.declared.Answer.the-variants.{Key, Mark}
-use Rattle.rules.specs.declared.Edit.{Edit}
-use Rattle.rules.specs.Table.{cell}
-use Rattle.rules.specs.Mesh.{Mesh, mesh}
-use Rattle.rules.specs.Step.{Step, step}
-use Rattle.rules.specs.Insert.{putFace, listsOf, insertWork}
-use Rattle.rules.specs.Edit.{remove, removeWork, splitWork, pokeWork, bridgeWork, arcBridgeWork}
-use Rattle.rules.specs.Extrude.{extrudeWork, arcExtrudeWork}
-use Rattle.rules.specs.Call.{work}
+use mathlib.Core.Path.{ap, _∙_}
+use Rattle.rules.specs.Mesh.{mesh}
+use Rattle.makers.specs.Makers.{searching, arcExtrudeWorkBy, workBy}
 use borrow.Author.Needs.{needs}
 use Rattle.choice.proofs.arc_extrude.Statement.{statement}
 use Rattle.choice.proofs.arc_extrude.Tie as tie
 
 returns : tie.Need-returns
-unfolding work
+unfolding workBy
 returns c =
-    let x = c .before .before .before .before .before .before .before .before .before .before .before .before .before .before .before .before .before .before .before .args in
-    λ ks. c .before .before .before .before .before .before .before .arc-extrude-work .ensures ∙ ap (λ (y : ℕ). arcExtrudeWork (mesh (x .vertices .now) (x .positions .now) (x .arcs .now) (x .edges .now) (x .faces .now) (x .counters .now)) y (x .by)) (c .before .before .before .before .before .before .before .before .before .before .before .before .before .before .before .before .arc-by-keys .ensures (x .positions .now) (x .edges .now) (x .faces .now) (x .counters .now))
+    let x = c .before .before .before .before .before .before .before .before .before .before .before .before .before .before .before .args in
+    λ ks. c .before .before .before .before .before .arc-extrude-work .ensures ∙ ap (λ (y : ℕ). arcExtrudeWorkBy searching (mesh (x .vertices .now) (x .positions .now) (x .arcs .now) (x .edges .now) (x .faces .now) (x .counters .now)) y (x .by)) (c .before .before .before .before .before .before .before .before .before .before .before .before .arc-by-keys .ensures (x .positions .now) (x .edges .now) (x .faces .now) (x .counters .now))
 
 pub arc-extrude-spec : {M : Type 1} → statement M
 arc-extrude-spec =
@@ -27,8 +18,6 @@ arc-extrude-spec =
     (tie.spec
     (λ c κs. search needs)
     (λ c κs. search needs)
-    (λ c. search needs)
-    (λ c. search needs)
     (λ c. search needs)
     (λ c. search needs)
     (λ c. search needs)

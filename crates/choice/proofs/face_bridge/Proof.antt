@@ -1,28 +1,18 @@
-use Prim.Native.Nat.{ℕ}
-use mathlib.Core.Path.{_≡_, refl, ap, sym, _∙_}
-use mathlib.Core.List.{List}
-use lib.ListN.{getD}
-use Rattle.rules.specs.declared.Answer.the-variants.{Key, Mark}
-use Rattle.rules.specs.declared.Edit.{Edit}
-use Rattle.rules.specs.Table.{cell}
-use Rattle.rules.specs.Mesh.{Mesh, mesh}
-use Rattle.rules.specs.Step.{Step, step}
-use Rattle.rules.specs.Insert.{putFace, listsOf, insertWork}
-use Rattle.rules.specs.Edit.{remove, removeWork, splitWork, pokeWork, bridgeWork, arcBridgeWork}
-use Rattle.rules.specs.Extrude.{extrudeWork, arcExtrudeWork}
-use Rattle.rules.specs.Call.{work}
+use mathlib.Core.Path.{_∙_}
+use Rattle.rules.specs.Mesh.{mesh}
+use Rattle.makers.specs.Makers.{searching, bridgeWorkBy, workBy}
 use borrow.Author.Needs.{needs}
 use Rattle.choice.proofs.face_bridge.Statement.{statement}
 use Rattle.choice.proofs.face_bridge.Tie as tie
 
 returns : tie.Need-returns
-unfolding work
+unfolding workBy
 returns c =
-    let x = c .before .before .before .before .before .before .before .before .before .before .before .before .before .before .before .before .before .before .args in
+    let x = c .before .before .before .before .before .before .before .before .before .before .before .before .before .before .args in
     λ p ks.
     let m = (mesh (x .vertices .now) p (x .arcs .now) (x .edges .now) (x .faces .now) (x .counters .now)) in
-    c .before .before .before .before .before .before .bridge-work .ensures p
-    ∙ (λ i. bridgeWork m (c .before .before .before .before .before .before .before .before .before .before .before .before .before .before .before .before .find-key3 .ensures i) (c .before .before .before .before .before .before .before .before .before .before .before .before .before .before .find-key32 .ensures i))
+    c .before .before .before .before .bridge-work .ensures p
+    ∙ (λ i. bridgeWorkBy searching m (c .before .before .before .before .before .before .before .before .before .before .before .before .find-key3 .ensures i) (c .before .before .before .before .before .before .before .before .before .before .find-key32 .ensures i))
 
 pub face-bridge-spec : {M : Type 1} → statement M
 face-bridge-spec =
@@ -31,8 +21,6 @@ face-bridge-spec =
     (λ c κs. search needs)
     (λ c κs. search needs)
     (λ c κs. search needs)
-    (λ c. search needs)
-    (λ c. search needs)
     (λ c. search needs)
     (λ c. search needs)
     (λ c. search needs)

@@ -1,30 +1,26 @@
 use Prim.Native.Nat.{ℕ}
-use mathlib.Core.Path.{_≡_, refl, ap, sym, _∙_}
+use mathlib.Core.Path.{ap, _∙_}
 use mathlib.Core.List.{List}
 use lib.ListN.{getD}
-use Rattle.rules.specs.declared.Answer.the-variants.{Key, Mark}
-use Rattle.rules.specs.declared.Edit.{Edit}
-use Rattle.rules.specs.Table.{cell}
+use Rattle.rules.specs.declared.Answer.the-variants.{Key}
 use Rattle.rules.specs.Mesh.{Mesh, mesh}
-use Rattle.rules.specs.Step.{Step, step}
-use Rattle.rules.specs.Insert.{putFace, listsOf, insertWork}
-use Rattle.rules.specs.Edit.{remove, removeWork, splitWork, pokeWork, bridgeWork, arcBridgeWork}
-use Rattle.rules.specs.Extrude.{extrudeWork, arcExtrudeWork}
-use Rattle.rules.specs.Call.{work}
+use Rattle.rules.specs.Step.{step}
+use Rattle.makers.specs.Search.{arcsOn}
+use Rattle.makers.specs.Makers.{searching, putFaceBy, insertWorkBy, workBy}
 use Rattle.checks.proofs.Pairs.{per-back}
 use borrow.Author.Needs.{needs}
 use Rattle.choice.proofs.face_insert.Statement.{statement}
 use Rattle.choice.proofs.face_insert.Tie as tie
 
 returns : tie.Need-returns
-unfolding work insertWork
+unfolding workBy insertWorkBy
 returns c =
-    let x = c .before .before .before .before .before .before .before .before .before .before .before .before .before .before .before .before .before .before .before .args in
+    let x = c .before .before .before .before .before .before .before .before .before .before .before .before .before .before .before .args in
     λ p.
     let m = (mesh (x .vertices .now) p (x .arcs .now) (x .edges .now) (x .faces .now) (x .counters .now)) in
-    ap (λ (t : Mesh). step t (Key (getD (x .counters .now) 2 0))) (c .before .before .before .before .before .before .insert-work .ensures p)
-    ∙ ap (λ (l : List ℕ). step (putFace m l (listsOf m l) (x .mark)) (Key (getD (x .counters .now) 2 0)))
-    (per-back m (x .keys .now) (c .before .before .before .before .before .before .before .before .before .before .before .before .before .before .before .before .before .before .before .pre .1) (c .before .before .before .before .before .before .before .before .before .before .before .before .before .before .before .before .before .from-keys .result) (c .before .before .before .before .before .before .before .before .before .before .before .before .before .before .before .before .before .from-keys .ensures) (c .before .before .before .before .before .before .before .before .before .before .before .before .before .before .before .vertices-by-keys .result) (c .before .before .before .before .before .before .before .before .before .before .before .before .before .before .before .vertices-by-keys .ensures))
+    ap (λ (t : Mesh). step t (Key (getD (x .counters .now) 2 0))) (c .before .before .before .before .insert-work .ensures p)
+    ∙ ap (λ (l : List ℕ). step (putFaceBy searching m (arcsOn m l) m l (x .mark)) (Key (getD (x .counters .now) 2 0)))
+    (per-back m (x .keys .now) (c .before .before .before .before .before .before .before .before .before .before .before .before .before .before .before .pre) (c .before .before .before .before .before .before .before .before .before .before .before .before .before .from-keys .result) (c .before .before .before .before .before .before .before .before .before .before .before .before .before .from-keys .ensures) (c .before .before .before .before .before .before .before .before .before .before .before .vertices-by-keys .result) (c .before .before .before .before .before .before .before .before .before .before .before .vertices-by-keys .ensures))
 
 pub face-insert-spec : {M : Type 1} → statement M
 face-insert-spec =
@@ -34,8 +30,6 @@ face-insert-spec =
     (λ c κs. search needs)
     (λ c. search needs)
     (λ c κs. search needs)
-    (λ c. search needs)
-    (λ c. search needs)
     (λ c. search needs)
     (λ c. search needs)
     (λ c. search needs)

@@ -1,22 +1,17 @@
 use Prim.Native.Nat.{ℕ}
-use mathlib.Core.Path.{_≡_, refl, ap, sym, _∙_}
-use mathlib.Core.List.{List}
-use lib.ListN.{getD}
-use Rattle.rules.specs.declared.Answer.the-variants.{Key, Mark}
-use Rattle.rules.specs.declared.Edit.{Edit}
+use mathlib.Core.Path.{ap, _∙_}
+use Rattle.rules.specs.declared.Answer.the-variants.{Mark}
 use Rattle.rules.specs.Table.{cell}
 use Rattle.rules.specs.Mesh.{Mesh, mesh}
-use Rattle.rules.specs.Step.{Step, step}
-use Rattle.rules.specs.Insert.{putFace, listsOf, insertWork}
-use Rattle.rules.specs.Edit.{remove, removeWork, splitWork, pokeWork, bridgeWork, arcBridgeWork}
-use Rattle.rules.specs.Extrude.{extrudeWork, arcExtrudeWork}
-use Rattle.rules.specs.Call.{work}
+use Rattle.rules.specs.Step.{step}
+use Rattle.rules.specs.Edit.{remove, removeWork}
+use Rattle.makers.specs.Makers.{workBy}
 use borrow.Author.Needs.{needs}
 use Rattle.choice.proofs.face_remove.Statement.{statement}
 use Rattle.choice.proofs.face_remove.Tie as tie
 
 returns : tie.Need-returns
-unfolding work removeWork
+unfolding workBy removeWork
 returns c =
     let x = c .before .before .before .before .before .before .before .before .before .args in
     let f = c .before .before .before .before .before .before .before .find-key3 in

@@ -1,17 +1,10 @@
 use native.Mathlib.Omega.{arith}
-use Prim.Native.Nat.{ℕ}
-use mathlib.Core.Path.{_≡_, refl, ap, sym, _∙_}
-use mathlib.Core.List.{List, []}
+use mathlib.Core.Path.{ap}
 use lib.ListN.{getD}
-use Rattle.rules.specs.declared.Answer.the-variants.{Key, Mark}
-use Rattle.rules.specs.declared.Edit.{Edit}
-use Rattle.rules.specs.Table.{cell}
-use Rattle.rules.specs.Mesh.{Mesh, mesh}
-use Rattle.rules.specs.Step.{Step, step}
-use Rattle.rules.specs.Insert.{putFace, listsOf, insertWork}
-use Rattle.rules.specs.Edit.{remove, removeWork, splitWork, pokeWork, bridgeWork, arcBridgeWork}
-use Rattle.rules.specs.Extrude.{extrudeWork, arcExtrudeWork}
-use Rattle.rules.specs.Call.{work}
+use Rattle.rules.specs.declared.Answer.the-variants.{Key}
+use Rattle.rules.specs.Mesh.{Mesh}
+use Rattle.rules.specs.Step.{step}
+use Rattle.makers.specs.Makers.{workBy}
 use borrow.Author.Needs.{needs}
 use Rattle.choice.proofs.vertex_insert.Statement.{statement}
 use Rattle.choice.proofs.vertex_insert.Tie as tie
@@ -20,7 +13,7 @@ new-vertex-requires : tie.Need-new-vertex-requires
 new-vertex-requires c κs = λ k q. let z : ⊥ = omega arith in absurd z
 
 returns : tie.Need-returns
-unfolding work
+unfolding workBy
 returns c =
     let x = c .before .before .before .before .before .before .before .args in
     let made = c .before .before .new-vertex in

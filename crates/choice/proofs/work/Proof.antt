@@ -1,24 +1,15 @@
-use Prim.Native.Nat.{ℕ}
-use mathlib.Core.Path.{_≡_, refl, ap, sym, _∙_}
-use mathlib.Core.List.{List}
-use lib.ListN.{getD}
-use Rattle.rules.specs.declared.Answer.the-variants.{Key, Mark}
+use mathlib.Core.Path.{ap, sym, _∙_}
 use Rattle.rules.specs.declared.Edit.{Edit}
-use Rattle.rules.specs.Table.{cell}
-use Rattle.rules.specs.Mesh.{Mesh, mesh}
-use Rattle.rules.specs.Step.{Step, step}
-use Rattle.rules.specs.Insert.{putFace, listsOf, insertWork}
-use Rattle.rules.specs.Edit.{remove, removeWork, splitWork, pokeWork, bridgeWork, arcBridgeWork}
-use Rattle.rules.specs.Extrude.{extrudeWork, arcExtrudeWork}
-use Rattle.rules.specs.Call.{work}
+use Rattle.rules.specs.Mesh.{mesh}
+use Rattle.makers.specs.Makers.{searching, workBy}
 use borrow.Author.Needs.{needs}
 use Rattle.choice.proofs.work.Statement.{statement}
 use Rattle.choice.proofs.work.Tie as tie
 
 face-insert-requires : tie.Need-face-insert-requires
 face-insert-requires c κs =
-    let z = c .before .before .before .before .before .before .before .before .before .before .before .pre in
-    (z .0, z .1 (c .before .before .before .before .before .before .before .before .edit2 .given .0 .0) (c .before .before .before .before .before .before .before .before .edit2 .given .1))
+    let g = c .before .before .before .before .before .before .edit2 .given in
+    c .before .before .before .before .before .before .before .before .before .pre (g .0 .0) (g .1)
 
 same-length : tie.Need-same-length
 same-length c = search needs
@@ -29,7 +20,7 @@ same-length-2 c = search needs
 returns : tie.Need-returns
 returns c =
     let x = c .before .before .before .before .before .before .before .before .before .before .args in
-    c .before .before .vertex-insert .ensures (x .arcs .now) (x .edges .now) (x .faces .now) (x .keys .now) ∙ ap (λ (e : Edit). work (mesh (x .vertices .now) (x .positions .now) (x .arcs .now) (x .edges .now) (x .faces .now) (x .counters .now)) e (x .keys .now)) (sym (c .before .before .before .before .before .before .before .edit .given .1))
+    c .before .before .vertex-insert .ensures (x .arcs .now) (x .edges .now) (x .faces .now) (x .keys .now) ∙ ap (λ (e : Edit). workBy searching (mesh (x .vertices .now) (x .positions .now) (x .arcs .now) (x .edges .now) (x .faces .now) (x .counters .now)) e (x .keys .now)) (sym (c .before .before .before .before .before .before .before .edit .given .1))
 
 same-length-3 : tie.Need-same-length-3
 same-length-3 c = search needs
@@ -43,16 +34,21 @@ same-length-5 c = search needs
 same-length-6 : tie.Need-same-length-6
 same-length-6 c = search needs
 
+returns-2 : tie.Need-returns-2
+returns-2 c =
+    let x = c .before .before .before .before .before .before .before .before .before .before .before .before .before .before .args in
+    c .before .before .before .before .face-insert .ensures (x .positions .now) ∙ ap (λ (e : Edit). workBy searching (mesh (x .vertices .now) (x .positions .now) (x .arcs .now) (x .edges .now) (x .faces .now) (x .counters .now)) e (x .keys .now)) (sym (c .before .before .before .before .before .before .before .before .before .before .before .edit2 .given .1))
+
 same-length-7 : tie.Need-same-length-7
 same-length-7 c = search needs
 
 same-length-8 : tie.Need-same-length-8
 same-length-8 c = search needs
 
-returns-2 : tie.Need-returns-2
-returns-2 c =
-    let x = c .before .before .before .before .before .before .before .before .before .before .before .before .before .before .before .before .before .before .args in
-    c .before .before .before .before .before .before .face-insert .ensures (x .positions .now) ∙ ap (λ (e : Edit). work (mesh (x .vertices .now) (x .positions .now) (x .arcs .now) (x .edges .now) (x .faces .now) (x .counters .now)) e (x .keys .now)) (sym (c .before .before .before .before .before .before .before .before .before .before .before .before .before .before .before .edit2 .given .1))
+returns-3 : tie.Need-returns-3
+returns-3 c =
+    let x = c .before .before .before .before .before .before .before .before .before .args in
+    c .before .before .face-remove .ensures (x .vertices .now) (x .positions .now) (x .edges .now) (x .counters .now) (x .keys .now) ∙ ap (λ (e : Edit). workBy searching (mesh (x .vertices .now) (x .positions .now) (x .arcs .now) (x .edges .now) (x .faces .now) (x .counters .now)) e (x .keys .now)) (sym (c .before .before .before .before .before .before .edit3 .given .1))
 
 same-length-9 : tie.Need-same-length-9
 same-length-9 c = search needs
@@ -60,16 +56,16 @@ same-length-9 c = search needs
 same-length-10 : tie.Need-same-length-10
 same-length-10 c = search needs
 
-returns-3 : tie.Need-returns-3
-returns-3 c =
-    let x = c .before .before .before .before .before .before .before .before .before .args in
-    c .before .before .face-remove .ensures (x .vertices .now) (x .positions .now) (x .edges .now) (x .counters .now) (x .keys .now) ∙ ap (λ (e : Edit). work (mesh (x .vertices .now) (x .positions .now) (x .arcs .now) (x .edges .now) (x .faces .now) (x .counters .now)) e (x .keys .now)) (sym (c .before .before .before .before .before .before .edit3 .given .1))
-
 same-length-11 : tie.Need-same-length-11
 same-length-11 c = search needs
 
 same-length-12 : tie.Need-same-length-12
 same-length-12 c = search needs
+
+returns-4 : tie.Need-returns-4
+returns-4 c =
+    let x = c .before .before .before .before .before .before .before .before .before .before .before .before .before .before .args in
+    c .before .before .before .before .face-split .ensures (x .positions .now) (x .keys .now) ∙ ap (λ (e : Edit). workBy searching (mesh (x .vertices .now) (x .positions .now) (x .arcs .now) (x .edges .now) (x .faces .now) (x .counters .now)) e (x .keys .now)) (sym (c .before .before .before .before .before .before .before .before .before .before .before .edit4 .given .1))
 
 same-length-13 : tie.Need-same-length-13
 same-length-13 c = search needs
@@ -83,13 +79,13 @@ same-length-15 c = search needs
 same-length-16 : tie.Need-same-length-16
 same-length-16 c = search needs
 
-returns-4 : tie.Need-returns-4
-returns-4 c =
-    let x = c .before .before .before .before .before .before .before .before .before .before .before .before .before .before .before .before .before .before .args in
-    c .before .before .before .before .before .before .face-split .ensures (x .positions .now) (x .keys .now) ∙ ap (λ (e : Edit). work (mesh (x .vertices .now) (x .positions .now) (x .arcs .now) (x .edges .now) (x .faces .now) (x .counters .now)) e (x .keys .now)) (sym (c .before .before .before .before .before .before .before .before .before .before .before .before .before .before .before .edit4 .given .1))
-
 same-length-17 : tie.Need-same-length-17
 same-length-17 c = search needs
+
+returns-5 : tie.Need-returns-5
+returns-5 c =
+    let x = c .before .before .before .before .before .before .before .before .before .before .before .before .before .before .before .before .args in
+    c .before .before .before .before .before .face-poke .ensures (x .keys .now) ∙ ap (λ (e : Edit). workBy searching (mesh (x .vertices .now) (x .positions .now) (x .arcs .now) (x .edges .now) (x .faces .now) (x .counters .now)) e (x .keys .now)) (sym (c .before .before .before .before .before .before .before .before .before .before .before .before .before .edit5 .given .1))
 
 same-length-18 : tie.Need-same-length-18
 same-length-18 c = search needs
@@ -103,16 +99,16 @@ same-length-20 c = search needs
 same-length-21 : tie.Need-same-length-21
 same-length-21 c = search needs
 
+returns-6 : tie.Need-returns-6
+returns-6 c =
+    let x = c .before .before .before .before .before .before .before .before .before .before .before .before .before .before .args in
+    c .before .before .before .before .face-bridge .ensures (x .positions .now) (x .keys .now) ∙ ap (λ (e : Edit). workBy searching (mesh (x .vertices .now) (x .positions .now) (x .arcs .now) (x .edges .now) (x .faces .now) (x .counters .now)) e (x .keys .now)) (sym (c .before .before .before .before .before .before .before .before .before .before .before .edit6 .given .1))
+
 same-length-22 : tie.Need-same-length-22
 same-length-22 c = search needs
 
 same-length-23 : tie.Need-same-length-23
 same-length-23 c = search needs
-
-returns-5 : tie.Need-returns-5
-returns-5 c =
-    let x = c .before .before .before .before .before .before .before .before .before .before .before .before .before .before .before .before .before .before .before .before .args in
-    c .before .before .before .before .before .before .before .face-poke .ensures (x .keys .now) ∙ ap (λ (e : Edit). work (mesh (x .vertices .now) (x .positions .now) (x .arcs .now) (x .edges .now) (x .faces .now) (x .counters .now)) e (x .keys .now)) (sym (c .before .before .before .before .before .before .before .before .before .before .before .before .before .before .before .before .before .edit5 .given .1))
 
 same-length-24 : tie.Need-same-length-24
 same-length-24 c = search needs
@@ -123,6 +119,11 @@ same-length-25 c = search needs
 same-length-26 : tie.Need-same-length-26
 same-length-26 c = search needs
 
+returns-7 : tie.Need-returns-7
+returns-7 c =
+    let x = c .before .before .before .before .before .before .before .before .before .before .before .before .before .before .before .before .args in
+    c .before .before .before .before .before .face-extrude .ensures (x .keys .now) ∙ ap (λ (e : Edit). workBy searching (mesh (x .vertices .now) (x .positions .now) (x .arcs .now) (x .edges .now) (x .faces .now) (x .counters .now)) e (x .keys .now)) (sym (c .before .before .before .before .before .before .before .before .before .before .before .before .before .edit7 .given .1))
+
 same-length-27 : tie.Need-same-length-27
 same-length-27 c = search needs
 
@@ -132,13 +133,13 @@ same-length-28 c = search needs
 same-length-29 : tie.Need-same-length-29
 same-length-29 c = search needs
 
-returns-6 : tie.Need-returns-6
-returns-6 c =
-    let x = c .before .before .before .before .before .before .before .before .before .before .before .before .before .before .before .before .before .before .args in
-    c .before .before .before .before .before .before .face-bridge .ensures (x .positions .now) (x .keys .now) ∙ ap (λ (e : Edit). work (mesh (x .vertices .now) (x .positions .now) (x .arcs .now) (x .edges .now) (x .faces .now) (x .counters .now)) e (x .keys .now)) (sym (c .before .before .before .before .before .before .before .before .before .before .before .before .before .before .before .edit6 .given .1))
-
 same-length-30 : tie.Need-same-length-30
 same-length-30 c = search needs
+
+returns-8 : tie.Need-returns-8
+returns-8 c =
+    let x = c .before .before .before .before .before .before .before .before .before .before .before .before .before .before .args in
+    c .before .before .before .before .arc-bridge .ensures (x .positions .now) (x .keys .now) ∙ ap (λ (e : Edit). workBy searching (mesh (x .vertices .now) (x .positions .now) (x .arcs .now) (x .edges .now) (x .faces .now) (x .counters .now)) e (x .keys .now)) (sym (c .before .before .before .before .before .before .before .before .before .before .before .edit8 .given .1))
 
 same-length-31 : tie.Need-same-length-31
 same-length-31 c = search needs
@@ -155,62 +156,10 @@ same-length-34 c = search needs
 same-length-35 : tie.Need-same-length-35
 same-length-35 c = search needs
 
-same-length-36 : tie.Need-same-length-36
-same-length-36 c = search needs
-
-returns-7 : tie.Need-returns-7
-returns-7 c =
-    let x = c .before .before .before .before .before .before .before .before .before .before .before .before .before .before .before .before .before .before .before .before .args in
-    c .before .before .before .before .before .before .before .face-extrude .ensures (x .keys .now) ∙ ap (λ (e : Edit). work (mesh (x .vertices .now) (x .positions .now) (x .arcs .now) (x .edges .now) (x .faces .now) (x .counters .now)) e (x .keys .now)) (sym (c .before .before .before .before .before .before .before .before .before .before .before .before .before .before .before .before .before .edit7 .given .1))
-
-same-length-37 : tie.Need-same-length-37
-same-length-37 c = search needs
-
-same-length-38 : tie.Need-same-length-38
-same-length-38 c = search needs
-
-same-length-39 : tie.Need-same-length-39
-same-length-39 c = search needs
-
-same-length-40 : tie.Need-same-length-40
-same-length-40 c = search needs
-
-same-length-41 : tie.Need-same-length-41
-same-length-41 c = search needs
-
-same-length-42 : tie.Need-same-length-42
-same-length-42 c = search needs
-
-returns-8 : tie.Need-returns-8
-returns-8 c =
-    let x = c .before .before .before .before .before .before .before .before .before .before .before .before .before .before .before .before .before .before .args in
-    c .before .before .before .before .before .before .arc-bridge .ensures (x .positions .now) (x .keys .now) ∙ ap (λ (e : Edit). work (mesh (x .vertices .now) (x .positions .now) (x .arcs .now) (x .edges .now) (x .faces .now) (x .counters .now)) e (x .keys .now)) (sym (c .before .before .before .before .before .before .before .before .before .before .before .before .before .before .before .edit8 .given .1))
-
-same-length-43 : tie.Need-same-length-43
-same-length-43 c = search needs
-
-same-length-44 : tie.Need-same-length-44
-same-length-44 c = search needs
-
-same-length-45 : tie.Need-same-length-45
-same-length-45 c = search needs
-
-same-length-46 : tie.Need-same-length-46
-same-length-46 c = search needs
-
-same-length-47 : tie.Need-same-length-47
-same-length-47 c = search needs
-
-same-length-48 : tie.Need-same-length-48
-same-length-48 c = search needs
-
-same-length-49 : tie.Need-same-length-49
-same-length-49 c = search needs
-
 returns-9 : tie.Need-returns-9
 returns-9 c =
-    let x = c .before .before .before .before .before .before .before .before .before .before .before .before .before .before .before .before .before .before .before .before .args in
-    c .before .before .before .before .before .before .before .arc-extrude .ensures (x .keys .now) ∙ ap (λ (e : Edit). work (mesh (x .vertices .now) (x .positions .now) (x .arcs .now) (x .edges .now) (x .faces .now) (x .counters .now)) e (x .keys .now)) (sym (c .before .before .before .before .before .before .before .before .before .before .before .before .before .before .before .before .before .edit9 .given .1))
+    let x = c .before .before .before .before .before .before .before .before .before .before .before .before .before .before .before .before .args in
+    c .before .before .before .before .before .arc-extrude .ensures (x .keys .now) ∙ ap (λ (e : Edit). workBy searching (mesh (x .vertices .now) (x .positions .now) (x .arcs .now) (x .edges .now) (x .faces .now) (x .counters .now)) e (x .keys .now)) (sym (c .before .before .before .before .before .before .before .before .before .before .before .before .before .edit9 .given .1))
 
 pub work-spec : {M : Type 1} → statement M
 work-spec =
@@ -241,54 +190,40 @@ work-spec =
     same-length-4
     same-length-5
     same-length-6
+    returns-2
     same-length-7
     same-length-8
-    returns-2
+    returns-3
     same-length-9
     same-length-10
-    returns-3
     same-length-11
     same-length-12
+    returns-4
     same-length-13
     same-length-14
     same-length-15
     same-length-16
-    returns-4
     same-length-17
+    returns-5
     same-length-18
     same-length-19
     same-length-20
     same-length-21
+    returns-6
     same-length-22
     same-length-23
-    returns-5
     same-length-24
     same-length-25
     same-length-26
+    returns-7
     same-length-27
     same-length-28
     same-length-29
-    returns-6
     same-length-30
+    returns-8
     same-length-31
     same-length-32
     same-length-33
     same-length-34
     same-length-35
-    same-length-36
-    returns-7
-    same-length-37
-    same-length-38
-    same-length-39
-    same-length-40
-    same-length-41
-    same-length-42
-    returns-8
-    same-length-43
-    same-length-44
-    same-length-45
-    same-length-46
-    same-length-47
-    same-length-48
-    same-length-49
     returns-9)

@@ -4,7 +4,7 @@ use mathlib.Core.List.{[]}
 use borrow.Author.Tests.{not-true, not-false}
 use Rattle.rules.specs.Mesh.{Mesh, mesh, listOf}
 use Rattle.rules.specs.Step.{Step, step}
-use Rattle.rules.specs.Insert.{insertFace}
+use Rattle.makers.specs.Makers.{searching, insertFaceBy}
 use Rattle.insert.proofs.Filled.{filled-insert}
 use Rattle.edits.proofs.Known.{known-then}
 use Rattle.edits.proofs.Whole.{top-refused, top-goes}
@@ -19,70 +19,55 @@ near-edit-requires : tie.Need-near-edit-requires
 near-edit-requires c κs = omega (arith, c .before .before .before .before .before .size .ensures, c .before .before .before .before .before .before .known-few .ensures)
 
 insert-face-requires : tie.Need-insert-face-requires
-insert-face-requires c κs = (c .before .before .before .before .before .before .before .before .before .before .before .before .before .before .before .before .before .pre, c .before .before .before .before .before .before .before .before .before .near-edit .ensures)
+insert-face-requires c κs = c .before .before .before .before .before .before .before .near-edit .ensures
 
 same-length : tie.Need-same-length
-same-length c = c .before .before .before .before .before .before .before .before .insert-face .kept .0
+same-length c = c .before .before .before .before .before .before .insert-face .kept .0
 
 same-length-2 : tie.Need-same-length-2
-same-length-2 c = c .before .before .before .before .before .before .before .before .insert-face .kept .1 .0
+same-length-2 c = c .before .before .before .before .before .before .insert-face .kept .1 .0
 
 same-length-3 : tie.Need-same-length-3
-same-length-3 c = c .before .before .before .before .before .before .before .before .insert-face .kept .1 .1 .0
+same-length-3 c = c .before .before .before .before .before .before .insert-face .kept .1 .1 .0
 
 same-length-4 : tie.Need-same-length-4
-same-length-4 c = c .before .before .before .before .before .before .before .before .insert-face .kept .1 .1 .1 .0
-
-same-length-5 : tie.Need-same-length-5
-same-length-5 c = c .before .before .before .before .before .before .before .before .insert-face .kept .1 .1 .1 .1 .1 .0
-
-same-length-6 : tie.Need-same-length-6
-same-length-6 c = c .before .before .before .before .before .before .before .before .insert-face .kept .1 .1 .1 .1 .1 .1 .0
+same-length-4 c = c .before .before .before .before .before .before .insert-face .kept .1 .1 .1 .0
 
 returns : tie.Need-returns
 returns c =
     λ p.
-    let a = c .before .before .before .before .before .before .before .before .before .before .before .before .before .before .before .before .before .before .before .before .before .before .before .before .before .before .args in
-    let g = c .before .before .before .before .before .before .before .before .insert-face in
+    let a = c .before .before .before .before .before .before .before .before .before .before .before .before .before .before .before .before .before .before .before .before .before .before .args in
+    let g = c .before .before .before .before .before .before .insert-face in
     top-refused (mesh (a .vertices .now) p (a .arcs .now) (a .edges .now) (a .faces .now) (a .counters .now)) (listOf (a .vs)) (listOf (a .ds)) (mesh (g .last .0) p (g .last .1 .0) (g .last .1 .1 .0) (g .last .1 .1 .1 .0) (g .last .1 .1 .1 .1 .0)) (g .result) (g .ensures p) (sym (c .before .accepted .ensures) ∙ not-true _ (c .if1 .taken))
 
 walls-in-requires : tie.Need-walls-in-requires
 walls-in-requires c κs =
-    let a = c .before .before .before .before .before .before .before .before .before .before .before .before .before .before .before .before .before .before .before .before .before .before .before .before .before .before .before .before .before .before .before .before .before .before .before .args in
-    let q = c .before .before .before .before .before .before .before .before .before .before .before .before .before .before .before .before .before .before .before .before .before .before .before .before .before .before .before .before .before .before .before .before .before .before .before .pre in
-    let g = c .before .before .before .before .before .before .before .before .before .before .before .before .before .before .before .before .before .insert-face in
-    let k = c .before .before .before .before .before .before .before .before .before .before .before .before .before .before .before .before .before .before .before .before .before .before .before .before .before .before .before .near-edit in
+    let a = c .before .before .before .before .before .before .before .before .before .before .before .before .before .before .before .before .before .before .before .before .before .before .before .before .before .before .before .before .before .args in
+    let g = c .before .before .before .before .before .before .before .before .before .before .before .before .before .insert-face in
+    let k = c .before .before .before .before .before .before .before .before .before .before .before .before .before .before .before .before .before .before .before .before .before .near-edit in
     let m : Mesh = mesh (a .vertices .now) [] (a .arcs .now) (a .edges .now) (a .faces .now) (a .counters .now) in
-    let n : Mesh = mesh (g .last .0) [] (g .last .1 .0) (g .last .1 .1 .0) (g .last .1 .1 .1 .0) (g .last .1 .1 .1 .1 .0) in (
-      (g .kept .1 .1 .1 .1 .1 .0 ∙ q .0 ∙ sym (g .kept .1 .0), g .kept .1 .1 .1 .1 .1 .1 .0 ∙ q .1 ∙ sym (g .kept .1 .1 .0)),
-      known-then m n (insertFace m (listOf (a .ds)) 0 .tables) (k .last .0) (k .last .1 .0) (k .result) (filled-insert m (listOf (a .ds)) 0) (ap (λ (s : Step). s .tables) (g .ensures [])) (k .ensures),
-    )
+    let n : Mesh = mesh (g .last .0) [] (g .last .1 .0) (g .last .1 .1 .0) (g .last .1 .1 .1 .0) (g .last .1 .1 .1 .1 .0) in
+    known-then m n (insertFaceBy searching m (listOf (a .ds)) 0 .tables) (k .last .0) (k .last .1 .0) (k .result) (filled-insert m (listOf (a .ds)) 0) (ap (λ (s : Step). s .tables) (g .ensures [])) (k .ensures)
+
+same-length-5 : tie.Need-same-length-5
+same-length-5 c = c .before .before .before .before .walls-in .kept .0 ∙ c .before .before .before .before .before .before .before .before .before .before .before .before .before .before .before .before .before .before .insert-face .kept .0
+
+same-length-6 : tie.Need-same-length-6
+same-length-6 c = c .before .before .before .before .walls-in .kept .1 .0 ∙ c .before .before .before .before .before .before .before .before .before .before .before .before .before .before .before .before .before .before .insert-face .kept .1 .0
 
 same-length-7 : tie.Need-same-length-7
-same-length-7 c = c .before .before .before .before .before .before .walls-in .kept .0 ∙ c .before .before .before .before .before .before .before .before .before .before .before .before .before .before .before .before .before .before .before .before .before .before .before .before .insert-face .kept .0
+same-length-7 c = c .before .before .before .before .walls-in .kept .1 .1 .0 ∙ c .before .before .before .before .before .before .before .before .before .before .before .before .before .before .before .before .before .before .insert-face .kept .1 .1 .0
 
 same-length-8 : tie.Need-same-length-8
-same-length-8 c = c .before .before .before .before .before .before .walls-in .kept .1 .0 ∙ c .before .before .before .before .before .before .before .before .before .before .before .before .before .before .before .before .before .before .before .before .before .before .before .before .insert-face .kept .1 .0
-
-same-length-9 : tie.Need-same-length-9
-same-length-9 c = c .before .before .before .before .before .before .walls-in .kept .1 .1 .0 ∙ c .before .before .before .before .before .before .before .before .before .before .before .before .before .before .before .before .before .before .before .before .before .before .before .before .insert-face .kept .1 .1 .0
-
-same-length-10 : tie.Need-same-length-10
-same-length-10 c = c .before .before .before .before .before .before .walls-in .kept .1 .1 .1 .0 ∙ c .before .before .before .before .before .before .before .before .before .before .before .before .before .before .before .before .before .before .before .before .before .before .before .before .insert-face .kept .1 .1 .1 .0
-
-same-length-11 : tie.Need-same-length-11
-same-length-11 c = c .before .before .before .before .before .before .walls-in .kept .1 .1 .1 .1 .1 .0 ∙ c .before .before .before .before .before .before .before .before .before .before .before .before .before .before .before .before .before .before .before .before .before .before .before .before .insert-face .kept .1 .1 .1 .1 .1 .0
-
-same-length-12 : tie.Need-same-length-12
-same-length-12 c = c .before .before .before .before .before .before .walls-in .kept .1 .1 .1 .1 .1 .1 .0 ∙ c .before .before .before .before .before .before .before .before .before .before .before .before .before .before .before .before .before .before .before .before .before .before .before .before .insert-face .kept .1 .1 .1 .1 .1 .1 .0
+same-length-8 c = c .before .before .before .before .walls-in .kept .1 .1 .1 .0 ∙ c .before .before .before .before .before .before .before .before .before .before .before .before .before .before .before .before .before .before .insert-face .kept .1 .1 .1 .0
 
 returns-2 : tie.Need-returns-2
 returns-2 c =
     λ p.
-    let a = c .before .before .before .before .before .before .before .before .before .before .before .before .before .before .before .before .before .before .before .before .before .before .before .before .before .before .before .before .before .before .before .before .before .before .before .before .before .before .before .before .before .before .args in
-    let g = c .before .before .before .before .before .before .before .before .before .before .before .before .before .before .before .before .before .before .before .before .before .before .before .before .insert-face in
-    let t = c .before .before .before .before .before .before .walls-in in
-    top-goes (mesh (a .vertices .now) p (a .arcs .now) (a .edges .now) (a .faces .now) (a .counters .now)) (listOf (a .vs)) (listOf (a .ds)) (mesh (g .last .0) p (g .last .1 .0) (g .last .1 .1 .0) (g .last .1 .1 .1 .0) (g .last .1 .1 .1 .1 .0)) (g .result) (g .ensures p) (sym (c .before .before .before .before .before .before .before .before .before .before .before .before .before .before .before .before .before .accepted .ensures) ∙ not-false _ (c .before .before .before .before .before .before .before .before .before .before .before .before .before .before .before .before .if1 .left)) (step (mesh (t .last .0) p (t .last .1 .0) (t .last .1 .1 .0) (t .last .1 .1 .1 .0) (t .last .1 .1 .1 .1 .0)) (t .result)) (t .ensures p)
+    let a = c .before .before .before .before .before .before .before .before .before .before .before .before .before .before .before .before .before .before .before .before .before .before .before .before .before .before .before .before .before .before .before .before .before .before .args in
+    let g = c .before .before .before .before .before .before .before .before .before .before .before .before .before .before .before .before .before .before .insert-face in
+    let t = c .before .before .before .before .walls-in in
+    top-goes (mesh (a .vertices .now) p (a .arcs .now) (a .edges .now) (a .faces .now) (a .counters .now)) (listOf (a .vs)) (listOf (a .ds)) (mesh (g .last .0) p (g .last .1 .0) (g .last .1 .1 .0) (g .last .1 .1 .1 .0) (g .last .1 .1 .1 .1 .0)) (g .result) (g .ensures p) (sym (c .before .before .before .before .before .before .before .before .before .before .before .before .before .accepted .ensures) ∙ not-false _ (c .before .before .before .before .before .before .before .before .before .before .before .before .if1 .left)) (step (mesh (t .last .0) p (t .last .1 .0) (t .last .1 .1 .0) (t .last .1 .1 .1 .0) (t .last .1 .1 .1 .1 .0)) (t .result)) (t .ensures p)
 
 pub top-and-walls-spec : {M : Type 1} → statement M
 top-and-walls-spec =
@@ -98,14 +83,10 @@ top-and-walls-spec =
     same-length-2
     same-length-3
     same-length-4
-    same-length-5
-    same-length-6
     returns
     walls-in-requires
+    same-length-5
+    same-length-6
     same-length-7
     same-length-8
-    same-length-9
-    same-length-10
-    same-length-11
-    same-length-12
     returns-2)

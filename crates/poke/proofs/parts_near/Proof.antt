@@ -8,28 +8,22 @@ near-edit-requires : tie.Need-near-edit-requires
 near-edit-requires c κs = omega (arith, c .before .before .before .before .before .before .size .ensures, c .before .before .before .before .before .before .before .known-few .ensures)
 
 parts-in-requires : tie.Need-parts-in-requires
-parts-in-requires c κs = (c .before .before .before .before .before .before .before .before .before .before .before .before .before .before .before .before .before .before .pre, c .before .before .before .before .before .before .before .before .before .near-edit .ensures)
+parts-in-requires c κs = c .before .before .before .before .before .before .before .near-edit .ensures
 
 same-length : tie.Need-same-length
-same-length c = c .before .before .before .before .before .before .parts-in .kept .0
+same-length c = c .before .before .before .before .parts-in .kept .0
 
 same-length-2 : tie.Need-same-length-2
-same-length-2 c = c .before .before .before .before .before .before .parts-in .kept .1 .0
+same-length-2 c = c .before .before .before .before .parts-in .kept .1 .0
 
 same-length-3 : tie.Need-same-length-3
-same-length-3 c = c .before .before .before .before .before .before .parts-in .kept .1 .1 .0
+same-length-3 c = c .before .before .before .before .parts-in .kept .1 .1 .0
 
 same-length-4 : tie.Need-same-length-4
-same-length-4 c = c .before .before .before .before .before .before .parts-in .kept .1 .1 .1 .0
-
-same-length-5 : tie.Need-same-length-5
-same-length-5 c = c .before .before .before .before .before .before .parts-in .kept .1 .1 .1 .1 .1 .0
-
-same-length-6 : tie.Need-same-length-6
-same-length-6 c = c .before .before .before .before .before .before .parts-in .kept .1 .1 .1 .1 .1 .1 .0
+same-length-4 c = c .before .before .before .before .parts-in .kept .1 .1 .1 .0
 
 returns : tie.Need-returns
-returns c = λ p. c .before .before .before .before .before .before .parts-in .ensures p
+returns c = λ p. c .before .before .before .before .parts-in .ensures p
 
 pub parts-near-spec : {M : Type 1} → statement M
 parts-near-spec =
@@ -44,6 +38,4 @@ parts-near-spec =
     same-length-2
     same-length-3
     same-length-4
-    same-length-5
-    same-length-6
     returns)

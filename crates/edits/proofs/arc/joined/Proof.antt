@@ -1,5 +1,5 @@
 -- `edits::arc::joined` meets its contract: the edge, then the arc bridge, by one list. Assumes nothing.
-use mathlib.Core.Path.{sym, _∙_}
+use mathlib.Core.Path.{_∙_}
 use mathlib.Core.List.{[]}
 use Rattle.rules.specs.Mesh.{Mesh, mesh}
 use Rattle.rules.specs.Link.{getOrInsertEdge}
@@ -17,39 +17,31 @@ edge-near-requires c κs =
 
 arc-bridge-requires : tie.Need-arc-bridge-requires
 arc-bridge-requires c κs =
-    let a = c .before .before .before .before .before .before .before .before .before .before .before .before .before .before .before .before .before .before .before .before .before .before .before .before .before .before .before .args in
-    let g = c .before .before .before .before .before .before .before .before .before .before .before .before .edge-near in
-    let k = c .before .before .before .before .before .before .before .before .before .before .before .before .before .before .before .before .before .before .before .near-edit in
+    let a = c .before .before .before .before .before .before .before .before .before .before .before .before .before .before .before .before .before .before .before .before .before .before .before .before .before .args in
+    let g = c .before .before .before .before .before .before .before .before .before .before .edge-near in
+    let k = c .before .before .before .before .before .before .before .before .before .before .before .before .before .before .before .before .before .near-edit in
     let m : Mesh = mesh (a .vertices .now) [] (a .arcs .now) (a .edges .now) (a .faces .now) (a .counters .now) in
-    let n : Mesh = mesh (g .last .0) [] (g .last .1 .0) (g .last .1 .1 .0) (a .faces .now) (g .last .1 .1 .1 .0) in (
-      (c .before .before .before .before .before .before .before .before .before .before .before .before .before .before .before .before .before .before .before .before .before .before .before .before .before .before .before .pre .0 ∙ sym (g .kept .1 .0), c .before .before .before .before .before .before .before .before .before .before .before .before .before .before .before .before .before .before .before .before .before .before .before .before .before .before .before .pre .1 ∙ sym (g .kept .1 .1 .0)),
-      known-then m n (getOrInsertEdge m (a .c) (a .d)) (k .last .0) (k .last .1 .0) (k .result) (filled-get m (a .c) (a .d)) (g .ensures .0 [] (a .faces .now)) (k .ensures),
-    )
+    let n : Mesh = mesh (g .last .0) [] (g .last .1 .0) (g .last .1 .1 .0) (a .faces .now) (g .last .1 .1 .1 .0) in
+    known-then m n (getOrInsertEdge m (a .c) (a .d)) (k .last .0) (k .last .1 .0) (k .result) (filled-get m (a .c) (a .d)) (g .ensures .0 [] (a .faces .now)) (k .ensures)
 
 same-length : tie.Need-same-length
-same-length c = c .before .before .before .before .before .before .arc-bridge .kept .0 ∙ c .before .before .before .before .before .before .before .before .before .before .before .before .before .before .before .before .before .before .before .edge-near .kept .0
+same-length c = c .before .before .before .before .arc-bridge .kept .0 ∙ c .before .before .before .before .before .before .before .before .before .before .before .before .before .before .before .edge-near .kept .0
 
 same-length-2 : tie.Need-same-length-2
-same-length-2 c = c .before .before .before .before .before .before .arc-bridge .kept .1 .0 ∙ c .before .before .before .before .before .before .before .before .before .before .before .before .before .before .before .before .before .before .before .edge-near .kept .1 .0
+same-length-2 c = c .before .before .before .before .arc-bridge .kept .1 .0 ∙ c .before .before .before .before .before .before .before .before .before .before .before .before .before .before .before .edge-near .kept .1 .0
 
 same-length-3 : tie.Need-same-length-3
-same-length-3 c = c .before .before .before .before .before .before .arc-bridge .kept .1 .1 .0 ∙ c .before .before .before .before .before .before .before .before .before .before .before .before .before .before .before .before .before .before .before .edge-near .kept .1 .1 .0
+same-length-3 c = c .before .before .before .before .arc-bridge .kept .1 .1 .0 ∙ c .before .before .before .before .before .before .before .before .before .before .before .before .before .before .before .edge-near .kept .1 .1 .0
 
 same-length-4 : tie.Need-same-length-4
-same-length-4 c = c .before .before .before .before .before .before .arc-bridge .kept .1 .1 .1 .0
-
-same-length-5 : tie.Need-same-length-5
-same-length-5 c = c .before .before .before .before .before .before .arc-bridge .kept .1 .1 .1 .1 .1 .0
-
-same-length-6 : tie.Need-same-length-6
-same-length-6 c = c .before .before .before .before .before .before .arc-bridge .kept .1 .1 .1 .1 .1 .1 .0
+same-length-4 c = c .before .before .before .before .arc-bridge .kept .1 .1 .1 .0
 
 returns : tie.Need-returns
 returns c =
     λ p.
-    let a = c .before .before .before .before .before .before .before .before .before .before .before .before .before .before .before .before .before .before .before .before .before .before .before .before .before .before .before .before .before .before .before .before .before .before .args in
-    let g = c .before .before .before .before .before .before .before .before .before .before .before .before .before .before .before .before .before .before .before .edge-near in
-    let t = c .before .before .before .before .before .before .arc-bridge in
+    let a = c .before .before .before .before .before .before .before .before .before .before .before .before .before .before .before .before .before .before .before .before .before .before .before .before .before .before .before .before .before .before .args in
+    let g = c .before .before .before .before .before .before .before .before .before .before .before .before .before .before .before .edge-near in
+    let t = c .before .before .before .before .arc-bridge in
     let m : Mesh = mesh (a .vertices .now) p (a .arcs .now) (a .edges .now) (a .faces .now) (a .counters .now) in
     let n : Mesh = mesh (g .last .0) p (g .last .1 .0) (g .last .1 .1 .0) (a .faces .now) (g .last .1 .1 .1 .0) in
     let s : Step = step (mesh (t .last .0) p (t .last .1 .0) (t .last .1 .1 .0) (t .last .1 .1 .1 .0) (t .last .1 .1 .1 .1 .0)) (t .result) in
@@ -68,6 +60,4 @@ joined-spec =
     same-length-2
     same-length-3
     same-length-4
-    same-length-5
-    same-length-6
     returns)

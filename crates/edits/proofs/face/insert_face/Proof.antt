@@ -10,7 +10,7 @@ use Rattle.edits.proofs.face.insert_face.Statement.{statement}
 use Rattle.edits.proofs.face.insert_face.Tie as tie
 
 perimeter-arcs-near-requires : tie.Need-perimeter-arcs-near-requires
-perimeter-arcs-near-requires c κs = c .before .before .before .pre .1 .listed
+perimeter-arcs-near-requires c κs = c .before .before .before .pre .listed
 
 -- the perimeter's arcs, as they are found
 held : (c : tie.After-perimeter-arcs-near) → let a = c .before .before .before .before .args in listOf (c .perimeter-arcs-near .result) ≡ arcsOf (a .arcs .now) (listOf (a .per))
@@ -30,34 +30,28 @@ returns c =
 
 insert-by-requires : tie.Need-insert-by-requires
 insert-by-requires c κs =
-    let s = c .before .before .before .before .before .before .before .before .before .before .before .before .before .before .before .before .before in
-    (s .pre .0, (held (c .before .before .before .before .before .before .before .before .before .before .before .before .before), (s .pre .1 .arcs-used, (s .pre .1 .edges-used, s .pre .1 .faces-used))))
+    let s = c .before .before .before .before .before .before .before .before .before .before .before .before .before .before .before in
+    (held (c .before .before .before .before .before .before .before .before .before .before .before), (s .pre .arcs-used, (s .pre .edges-used, s .pre .faces-used)))
 
 same-length-2 : tie.Need-same-length-2
-same-length-2 c = c .before .before .before .before .before .before .insert-by .kept .0
+same-length-2 c = c .before .before .before .before .insert-by .kept .0
 
 same-length-3 : tie.Need-same-length-3
-same-length-3 c = c .before .before .before .before .before .before .insert-by .kept .1 .0
+same-length-3 c = c .before .before .before .before .insert-by .kept .1 .0
 
 same-length-4 : tie.Need-same-length-4
-same-length-4 c = c .before .before .before .before .before .before .insert-by .kept .1 .1 .0
+same-length-4 c = c .before .before .before .before .insert-by .kept .1 .1 .0
 
 same-length-5 : tie.Need-same-length-5
-same-length-5 c = c .before .before .before .before .before .before .insert-by .kept .1 .1 .1 .0
-
-same-length-6 : tie.Need-same-length-6
-same-length-6 c = c .before .before .before .before .before .before .insert-by .kept .1 .1 .1 .1 .1 .0
-
-same-length-7 : tie.Need-same-length-7
-same-length-7 c = c .before .before .before .before .before .before .insert-by .kept .1 .1 .1 .1 .1 .1 .0
+same-length-5 c = c .before .before .before .before .insert-by .kept .1 .1 .1 .0
 
 returns-2 : tie.Need-returns-2
 returns-2 c =
     λ p.
-    let a = c .before .before .before .before .before .before .before .before .before .before .before .before .before .before .before .before .before .before .before .before .before .before .before .before .args in
-    let k = c .before .before .before .before .before .before .before .before .before .before .before .before .before .before .before .before .before .before .insert-checks-by in
-    let w = c .before .before .before .before .before .before .insert-by in
-    insert-done (mesh (a .vertices .now) p (a .arcs .now) (a .edges .now) (a .faces .now) (a .counters .now)) (mesh (w .last .0) p (w .last .1 .0) (w .last .1 .1 .0) (w .last .1 .1 .1 .0) (w .last .1 .1 .1 .1 .0)) (listOf (a .per)) (a .mark) (k .result) (getD (a .counters .now) 2 0) (k .ensures (a .vertices .now) p (a .edges .now) (a .faces .now) (a .counters .now)) (sym (c .before .before .before .before .before .before .before .before .before .before .before .before .before .before .before .before .before .accepted .ensures) ∙ not-false _ (c .before .before .before .before .before .before .before .before .before .before .before .before .before .before .before .before .if1 .left)) refl (w .ensures p)
+    let a = c .before .before .before .before .before .before .before .before .before .before .before .before .before .before .before .before .before .before .before .before .args in
+    let k = c .before .before .before .before .before .before .before .before .before .before .before .before .before .before .insert-checks-by in
+    let w = c .before .before .before .before .insert-by in
+    insert-done (mesh (a .vertices .now) p (a .arcs .now) (a .edges .now) (a .faces .now) (a .counters .now)) (mesh (w .last .0) p (w .last .1 .0) (w .last .1 .1 .0) (w .last .1 .1 .1 .0) (w .last .1 .1 .1 .1 .0)) (listOf (a .per)) (a .mark) (k .result) (getD (a .counters .now) 2 0) (k .ensures (a .vertices .now) p (a .edges .now) (a .faces .now) (a .counters .now)) (sym (c .before .before .before .before .before .before .before .before .before .before .before .before .before .accepted .ensures) ∙ not-false _ (c .before .before .before .before .before .before .before .before .before .before .before .before .if1 .left)) refl (w .ensures p)
 
 pub insert-face-spec : {M : Type 1} → statement M
 insert-face-spec =
@@ -75,6 +69,4 @@ insert-face-spec =
     same-length-3
     same-length-4
     same-length-5
-    same-length-6
-    same-length-7
     returns-2)

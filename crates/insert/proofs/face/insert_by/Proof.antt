@@ -1,22 +1,22 @@
--- `insert::face::insert_by` meets its contract: with few rows or with 64, as many as the perimeter can need. Assumes nothing.
-use native.Mathlib.Omega.{arith}
+-- `insert::face::insert_by` meets its contract: the search, then the insert by what it found. Assumes nothing.
+use mathlib.Core.Path.{_∙_}
+use Rattle.rules.specs.Mesh.{Mesh, mesh, listOf}
+use Rattle.insert.specs.Sought.{soughtOf}
+use Rattle.insert.proofs.Loops.{insert-sought}
 use borrow.Author.Needs.{needs}
 use Rattle.insert.proofs.face.insert_by.Statement.{statement}
 use Rattle.insert.proofs.face.insert_by.Tie as tie
 
-insert-in-rows-requires : tie.Need-insert-in-rows-requires
-insert-in-rows-requires c κs =
-    let s = c .before .before .before .before .before .before .before .before .before .before .before in
-    let size = c .before .before .before .before .before .before .before .before .before .size .ensures in
-    let few = c .before .before .before .before .before .before .before .before .before .before .known-few .ensures in
-    (s .pre .0, (omega (arith, size, few), (s .pre .1 .0, s .pre .1 .1)))
-
-insert-in-rows-requires-2 : tie.Need-insert-in-rows-requires-2
-insert-in-rows-requires-2 c κs =
-    let s = c .before .before .before .before .before .before .before .before .before .before .before in
-    let size = c .before .before .before .before .before .before .before .before .before .size .ensures in
-    let few = c .before .before .before .before .before .before .before .before .before .before .known-few .ensures in
-    (s .pre .0, (omega (arith, size, few), (s .pre .1 .0, s .pre .1 .1)))
+returns : tie.Need-returns
+returns c =
+    λ p.
+    let s = c .before .before .before .before .before .before .before .before .before .before .before .before .before .before .before in
+    let a = s .args in
+    let none = c .before .before .before .before .before .before .before .before .before .before .before .none in
+    let found = c .before .before .before .before .before .before .before .before .before .before .search-lists in
+    let m : Mesh = mesh (a .vertices .now) p (a .arcs .now) (a .edges .now) (a .faces .now) (a .counters .now) in
+    c .before .before .before .before .put-face-sought .ensures p
+    ∙ insert-sought m (listOf (a .per)) (a .mark) (listOf (a .found)) (listOf (none .result)) (soughtOf (found .result)) (s .pre .0) (none .ensures) (found .ensures p (a .faces .now) (a .counters .now))
 
 pub insert-by-spec : {M : Type 1} → statement M
 insert-by-spec =
@@ -24,21 +24,9 @@ insert-by-spec =
     (tie.spec
     (λ c κs. search needs)
     (λ c κs. search needs)
-    (λ c. search needs)
-    insert-in-rows-requires
-    (λ c. search needs)
+    (λ c κs. search needs)
     (λ c. search needs)
     (λ c. search needs)
     (λ c. search needs)
     (λ c. search needs)
-    (λ c. search needs)
-    (λ c. search needs)
-    (λ c. search needs)
-    insert-in-rows-requires-2
-    (λ c. search needs)
-    (λ c. search needs)
-    (λ c. search needs)
-    (λ c. search needs)
-    (λ c. search needs)
-    (λ c. search needs)
-    (λ c. search needs))
+    returns)

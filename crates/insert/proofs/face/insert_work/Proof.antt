@@ -11,30 +11,24 @@ perimeter-arcs-near-requires c κs = c .before .before .before .list-near .ensur
 
 insert-by-requires : tie.Need-insert-by-requires
 insert-by-requires c κs =
-    let s = c .before .before .before .before .before .before .before .before .before .before .before .before .before .before .before .before .before .before .before in
-    let found = c .before .before .before .before .before .before .before .perimeter-arcs-near in
-    (s .pre, (arcs-held (s .args .arcs .now) (listOf (s .args .per)) (found .result) (c .before .before .before .before .before .before .before .before .before .before .before .before .before .before .before .before .before .before .known-few .ensures) (found .ensures), (c .before .before .before .before .before .before .before .before .before .before .before .list-near .ensures .1, (used-none (s .args .edges .now), used-none (s .args .faces .now)))))
+    let a = c .before .before .before .before .before .before .before .before .before .before .before .before .before .before .before .before .before .args in
+    let found = c .before .before .before .before .before .perimeter-arcs-near in
+    (arcs-held (a .arcs .now) (listOf (a .per)) (found .result) (c .before .before .before .before .before .before .before .before .before .before .before .before .before .before .before .before .known-few .ensures) (found .ensures), (c .before .before .before .before .before .before .before .before .before .list-near .ensures .1, (used-none (a .edges .now), used-none (a .faces .now))))
 
 same-length : tie.Need-same-length
-same-length c = c .before .before .before .before .before .before .insert-by .kept .0
+same-length c = c .before .before .before .before .insert-by .kept .0
 
 same-length-2 : tie.Need-same-length-2
-same-length-2 c = c .before .before .before .before .before .before .insert-by .kept .1 .0
+same-length-2 c = c .before .before .before .before .insert-by .kept .1 .0
 
 same-length-3 : tie.Need-same-length-3
-same-length-3 c = c .before .before .before .before .before .before .insert-by .kept .1 .1 .0
+same-length-3 c = c .before .before .before .before .insert-by .kept .1 .1 .0
 
 same-length-4 : tie.Need-same-length-4
-same-length-4 c = c .before .before .before .before .before .before .insert-by .kept .1 .1 .1 .0
-
-same-length-5 : tie.Need-same-length-5
-same-length-5 c = c .before .before .before .before .before .before .insert-by .kept .1 .1 .1 .1 .1 .0
-
-same-length-6 : tie.Need-same-length-6
-same-length-6 c = c .before .before .before .before .before .before .insert-by .kept .1 .1 .1 .1 .1 .1 .0
+same-length-4 c = c .before .before .before .before .insert-by .kept .1 .1 .1 .0
 
 returns : tie.Need-returns
-returns c = λ p. c .before .before .before .before .before .before .insert-by .ensures p
+returns c = λ p. c .before .before .before .before .insert-by .ensures p
 
 pub insert-work-spec : {M : Type 1} → statement M
 insert-work-spec =
@@ -52,6 +46,4 @@ insert-work-spec =
     same-length-2
     same-length-3
     same-length-4
-    same-length-5
-    same-length-6
     returns)

@@ -1,3 +1,4 @@
+-- `insert::perimeter::exterior` meets its contract. The loop keeps the exterior of the pairs passed by. Assumes nothing.
 use Prim.Native.Nat.{_-_, _≤_}
 use native.Mathlib.Omega.{arith}
 use mathlib.Core.Path.{_≡_, refl, _∙_}
@@ -11,10 +12,10 @@ use Rattle.insert.proofs.perimeter.exterior.Statement.{statement}
 use Rattle.insert.proofs.perimeter.exterior.Tie as tie
 
 abbrev Inv-loop : tie.InvT-loop
-Inv-loop arcs₀ edges past pastedges bound leads xs n i₀ arcs i = (i ≤ n) × ((length arcs ≡ length arcs₀) × (arcs ≡ upTo (exteriorIn edges past pastedges bound (listOf leads) (listOf xs)) i arcs₀))
+Inv-loop arcs₀ edges outs backs xs n i₀ arcs i = (i ≤ n) × ((length arcs ≡ length arcs₀) × (arcs ≡ upTo (exteriorIn edges (listOf outs) (listOf backs) (listOf xs)) i arcs₀))
 
 abbrev μ-loop : tie.MeasureT-loop
-μ-loop arcs₀ edges past pastedges bound leads xs n i₀ arcs i = n - i
+μ-loop arcs₀ edges outs backs xs n i₀ arcs i = n - i
 
 loop-holds : tie.Need-loop-holds Inv-loop μ-loop
 unfolding upTo
@@ -24,8 +25,13 @@ loop-again : tie.Need-loop-again Inv-loop μ-loop
 loop-again c =
     let l = c .before .before .before .before .before .before .before .before in
     let a = c .before .before .before .before .before .before .before .before .before .before .args in
-    let en = c .before .before .before .before .before .before .before .before .before .size in
-    (search needs, (c .before .exterior-at .kept .0 ∙ l .loop .inv .1 .0, exterior-more (a .arcs .now) (a .edges .now) (a .past .now) (a .pastedges .now) (a .bound) (listOf (a .leads)) (listOf (a .xs)) (l .loop .i) (en .result) (c .before .before .before .before .before .place-after .result) (c .before .before .before .before .before .before .item .result) (c .before .before .before .before .item2 .result) (c .before .before .item3 .result) (en .ensures) (c .before .before .before .before .before .place-after .ensures) (c .before .before .before .before .before .before .item .ensures) (c .before .before .before .before .item2 .ensures) (c .before .before .item3 .ensures) (l .loop .inv .1 .1) (c .before .exterior-at .ensures)))
+    let n = c .before .before .before .before .before .before .before .before .before .size in
+    let g = c .before .exterior-at in
+    let j = c .before .before .before .before .before .place-after in
+    let out = c .before .before .before .before .before .before .item in
+    let back = c .before .before .before .before .item2 in
+    let x = c .before .before .item3 in
+    (search needs, (g .kept .0 ∙ l .loop .inv .1 .0, exterior-more (a .arcs .now) (a .edges .now) (listOf (a .outs)) (listOf (a .backs)) (listOf (a .xs)) (l .loop .i) (n .result) (j .result) (out .result) (back .result) (x .result) (n .ensures) (j .ensures) (out .ensures) (back .ensures) (x .ensures) (l .loop .inv .1 .1) (g .ensures)))
 
 returns : tie.Need-returns Inv-loop μ-loop
 unfolding exteriorBy
