@@ -3,10 +3,13 @@
 use Prim.Native.String.{String}
 use Prim.Native.Nat.{ℕ}
 use mathlib.Core.List.{List, [], _∷_}
+use lib.Ieee.{binary64, ofBits}
+use Rattle.rules.specs.declared.Reply.{Reply}
 use Rattle.rules.specs.Mesh.{Mesh, mesh}
+use Rattle.rules.specs.Point.{position, zeroFloat}
 use Rattle.rules.specs.Step.{told}
-use Rattle.rules.specs.Call.{checkMesh}
-use Rattle.rules.specs.Script.{bytes}
+use Rattle.rules.specs.Call.{checkMesh, vertexInsert, faceInsert}
+use Rattle.rules.specs.Script.{bytes, emptyRoom, emptyMesh}
 use Rattle.rules.specs.Corners.{desk, afterText, ask}
 
 -- a line asked after a script on tables of so many vertices, edges and faces, and its answer
@@ -120,6 +123,35 @@ inserts =
     ∷ asks 1 0 0 "v 0 0 0\n" "v 0 0 0" (refusedWith 7)
     ∷ []
 
+-- two neighbours in one spot (document 02, L6): 13, across the end too; not where they are no neighbours, nor where one coordinate differs; after 3
+-- and after 4; before an arc with a face and before an arc that leads back, 5
+unfoldable pub hairs : List Ask
+hairs =
+    asks 3 3 1 "v 0 0 0\nv 0 0 0\nv 2 0 0\n" "f 1 0 1 2" (refusedWith 13)
+    ∷ asks 3 3 1 "v 0 0 0\nv 1 0 0\nv 0 0 0\n" "f 1 0 1 2" (refusedWith 13)
+    ∷ asks 4 4 1 "v 0 0 0\nv 1 0 0\nv 0 0 0\nv 2 0 0\n" "f 1 0 1 2 3" (keyIs 0)
+    ∷ asks 3 3 1 "v 0 0 0\nv 0 0 1\nv 2 0 0\n" "f 1 0 1 2" (keyIs 0)
+    ∷ asks 3 3 1 "v 0 0 0\nv 0 0 0\nv 2 0 0\n" "f 1 0 1 0" (refusedWith 3)
+    ∷ asks 3 3 1 "v 0 0 0\nv 0 0 0\nv 2 0 0\n" "f 1 0 1 9" (refusedWith 4)
+    ∷ asks 4 5 2 "v 0 0 0\nv 1 0 0\nv 2 0 0\nv 1 0 0\nf 7 0 1 2\n" "f 1 0 1 3" (refusedWith 13)
+    ∷ asks 4 5 2 "v 0 0 0\nv 4 0 0\nv 4 4 0\nv 4 4 0\nf 7 0 1 2\n" "f 0 1 0 3 2" (refusedWith 13)
+    ∷ []
+
+-- and of the edits that insert faces: a split whose new seam would be a hair, after 7; a poke at a corner; an arc bridge, after its own 5; an extrude
+-- and an arc extrude by a zero shift, after 7
+unfoldable pub hairsInMidEdit : List Ask
+hairsInMidEdit =
+    asks 4 5 2 "v 0 0 0\nv 1 0 0\nv 0 0 0\nv 2 0 0\nf 5 0 1 2 3\n" "s 0 0 2" (refusedWith 13)
+    ∷ asks 4 4 2 "v 0 0 0\nv 1 0 0\nv 0 0 0\nv 2 0 0\nf 5 0 1 2 3\n" "s 0 0 2" (refusedWith 7)
+    ∷ asks 4 6 3 "v 0 0 0\nv 1 0 0\nv 2 0 0\nf 7 0 1 2\n" "p 0 1 0 0" (refusedWith 13)
+    ∷ asks 6 8 3 "v 0 0 0\nv 1 0 0\nv 2 0 0\nv 3 0 0\nv 0 0 0\nv 5 0 0\nf 1 0 1 2\nf 2 3 4 5\n" "j 1 0 4 3" (refusedWith 13)
+    ∷ asks 6 8 3 "v 0 0 0\nv 1 0 0\nv 2 0 0\nv 3 0 0\nv 0 0 0\nv 5 0 0\nf 1 0 1 2\nf 2 3 4 5\n" "j 0 1 4 3" (refusedWith 5)
+    ∷ asks 6 9 4 "v 0 0 0\nv 1 0 0\nv 2 0 0\nf 7 0 1 2\n" "x 0 0 0 0" (refusedWith 13)
+    ∷ asks 5 9 4 "v 0 0 0\nv 1 0 0\nv 2 0 0\nf 7 0 1 2\n" "x 0 0 0 0" (refusedWith 7)
+    ∷ asks 5 6 2 "v 0 0 0\nv 1 0 0\nv 2 0 0\nf 7 0 1 2\n" "a 1 0 0 0 0" (refusedWith 13)
+    ∷ asks 4 6 2 "v 0 0 0\nv 1 0 0\nv 2 0 0\nf 7 0 1 2\n" "a 1 0 0 0 0" (refusedWith 7)
+    ∷ []
+
 -- remove: its mark, on full tables; unknown 4
 unfoldable pub removes : List Ask
 removes =
@@ -187,3 +219,13 @@ triangle = "v 0 0 0\nv 1 0 0\nv 2 0 0\nf 7 0 1 2\n"
 
 abbrev pub triangleRemoved : String
 triangleRemoved = "v 0 0 0\nv 1 0 0\nv 2 0 0\nf 7 0 1 2\nr 0\n"
+
+-- a mesh with a corner at (-0,0,0), one at (0,0,0) and one apart, asked for a face on them
+unfoldable pub bothZeros : Reply
+bothZeros =
+    let r = emptyRoom 3 3 1 in
+    let minusZero = ofBits binary64 9223372036854775808 in
+    let first = vertexInsert (emptyMesh 3 3 1) r r (position minusZero zeroFloat zeroFloat) .mesh in
+    let second = vertexInsert first r r (position zeroFloat zeroFloat zeroFloat) .mesh in
+    let third = vertexInsert second r r (position (ofBits binary64 4607182418800017408) zeroFloat zeroFloat) .mesh in
+    told (faceInsert third r r (0 ∷ 1 ∷ 2 ∷ []) 7 .answer)
