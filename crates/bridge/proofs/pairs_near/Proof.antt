@@ -23,7 +23,7 @@ same-length-4 : tie.Need-same-length-4
 same-length-4 c = c .before .before .before .before .pairs-in .kept .1 .1 .1 .0
 
 returns : tie.Need-returns
-returns c = λ p. c .before .before .before .before .pairs-in .ensures p
+returns c = c .before .before .before .before .pairs-in .ensures
 
 pub pairs-near-spec : {M : Type 1} → statement M
 pairs-near-spec =

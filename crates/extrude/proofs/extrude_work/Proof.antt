@@ -30,7 +30,7 @@ returns c =
     let t = c .before .before .before .before .before .top-and-walls in
     let p : List (List Float) = n .last .1 .0 in
     let mₑ : Mesh = mesh (t .last .0) p (t .last .1 .0) (t .last .1 .1 .0) (t .last .1 .1 .1 .0) (t .last .1 .1 .1 .1 .0) in
-    extrude-steps (mesh (a .vertices .now) (a .positions .now) (a .arcs .now) (a .edges .now) (a .faces .now) (a .counters .now)) (a .f) (a .by) (c .before .before .before .before .before .before .before .before .before .before .before .before .before .before .before .before .before .before .before .before .before .before .before .vertices-of .result) (n .result) (d .last .0) (d .last .1 .0) (n .last .0) (n .last .1 .0) (n .last .1 .1 .0) mₑ (t .result) (c .answering .result) (c .before .before .before .before .before .before .before .before .before .before .before .before .before .before .before .before .before .before .before .before .before .before .before .vertices-of .ensures (a .vertices .now) (a .positions .now) (a .edges .now) (a .counters .now)) (d .ensures (a .vertices .now) (a .positions .now) (a .edges .now) (a .counters .now)) (n .ensures (d .last .0) (a .edges .now) (d .last .1 .0)) (t .ensures p) (c .answering .ensures mₑ)
+    extrude-steps (mesh (a .vertices .now) (a .positions .now) (a .arcs .now) (a .edges .now) (a .faces .now) (a .counters .now)) (a .f) (a .by) (c .before .before .before .before .before .before .before .before .before .before .before .before .before .before .before .before .before .before .before .before .before .before .before .vertices-of .result) (n .result) (d .last .0) (d .last .1 .0) (n .last .0) (n .last .1 .0) (n .last .1 .1 .0) mₑ (t .result) (c .answering .result) (c .before .before .before .before .before .before .before .before .before .before .before .before .before .before .before .before .before .before .before .before .before .before .before .vertices-of .ensures (a .vertices .now) (a .positions .now) (a .edges .now) (a .counters .now)) (d .ensures (a .vertices .now) (a .positions .now) (a .edges .now) (a .counters .now)) (n .ensures (d .last .0) (a .edges .now) (d .last .1 .0)) (t .ensures) (c .answering .ensures mₑ)
 
 pub extrude-work-spec : {M : Type 1} → statement M
 extrude-work-spec =

@@ -32,7 +32,7 @@ returns c =
     let t = c .before .before .before .before .before .parts-near in
     let m : Mesh = mesh (a .vertices .now) (a .positions .now) (a .arcs .now) (a .edges .now) (a .faces .now) (a .counters .now) in
     let mₑ : Mesh = mesh (t .last .0) (n .last .1 .0) (t .last .1 .0) (t .last .1 .1 .0) (t .last .1 .1 .1 .0) (t .last .1 .1 .1 .1 .0) in
-    poke-steps m (a .f) (a .position) (c .before .before .before .before .before .before .before .before .before .before .before .before .before .before .before .before .before .before .before .before .before .before .before .before .before .vertices-of .result) (c .before .before .before .before .before .before .before .before .before .before .before .before .before .before .before .before .before .before .before .before .before .before .before .cell3 .result) (n .result) (d .last .0) (d .last .1 .0) (n .last .0) (n .last .1 .0) (n .last .1 .1 .0) mₑ (t .result) (c .answering .result) (c .before .before .before .before .before .before .before .before .before .before .before .before .before .before .before .before .before .before .before .before .before .before .before .before .before .vertices-of .ensures (a .vertices .now) (a .positions .now) (a .edges .now) (a .counters .now)) (c .before .before .before .before .before .before .before .before .before .before .before .before .before .before .before .before .before .before .before .before .before .before .before .cell3 .ensures) (d .ensures (a .vertices .now) (a .positions .now) (a .edges .now) (a .counters .now)) (n .ensures .0) (n .ensures .1 (d .last .0) (a .edges .now) (d .last .1 .0)) (t .ensures (n .last .1 .0)) (c .answering .ensures mₑ)
+    poke-steps m (a .f) (a .position) (c .before .before .before .before .before .before .before .before .before .before .before .before .before .before .before .before .before .before .before .before .before .before .before .before .before .vertices-of .result) (c .before .before .before .before .before .before .before .before .before .before .before .before .before .before .before .before .before .before .before .before .before .before .before .cell3 .result) (n .result) (d .last .0) (d .last .1 .0) (n .last .0) (n .last .1 .0) (n .last .1 .1 .0) mₑ (t .result) (c .answering .result) (c .before .before .before .before .before .before .before .before .before .before .before .before .before .before .before .before .before .before .before .before .before .before .before .before .before .vertices-of .ensures (a .vertices .now) (a .positions .now) (a .edges .now) (a .counters .now)) (c .before .before .before .before .before .before .before .before .before .before .before .before .before .before .before .before .before .before .before .before .before .before .before .cell3 .ensures) (d .ensures (a .vertices .now) (a .positions .now) (a .edges .now) (a .counters .now)) (n .ensures .0) (n .ensures .1 (d .last .0) (a .edges .now) (d .last .1 .0)) (t .ensures) (c .answering .ensures mₑ)
 
 pub poke-work-spec : {M : Type 1} → statement M
 poke-work-spec =

@@ -37,7 +37,7 @@ returns c =
     let t = c .before .before .before .before .before .joined in
     let p : List (List Float) = o .last .1 .0 in
     let mₑ : Mesh = mesh (t .last .0) p (t .last .1 .0) (t .last .1 .1 .0) (t .last .1 .1 .1 .0) (t .last .1 .1 .1 .1 .0) in
-    arc-extrude-steps (mesh (a .vertices .now) (a .positions .now) (a .arcs .now) (a .edges .now) (a .faces .now) (a .counters .now)) (a .x) (a .by) (c .before .before .before .before .before .before .before .before .before .before .before .before .before .before .before .before .before .before .before .before .before .before .before .before .before .before .before .before .before .before .before .before .before .cell6 .result) (c .before .before .before .before .before .before .before .before .before .before .before .before .before .before .before .before .before .before .before .before .before .before .before .before .before .before .before .before .before .before .before .cell62 .result) (c .before .before .before .before .before .before .before .before .before .before .before .before .before .before .before .before .before .before .before .before .before .before .before .before .before .before .before .before .position-at .result) (c .before .before .before .before .before .before .before .before .before .before .before .before .before .before .before .before .before .before .before .before .before .before .before .before .before .before .before .moved .result) (c .before .before .before .before .before .before .before .before .before .before .before .before .before .before .before .before .before .before .position-at2 .result) (c .before .before .before .before .before .before .before .before .before .before .before .before .before .before .before .before .before .moved2 .result) (n .result) (o .result) (n .last .0) (n .last .1 .0) (n .last .1 .1 .0) (o .last .0) (o .last .1 .0) (o .last .1 .1 .0) mₑ (t .result) (c .answering .result) (c .before .before .before .before .before .before .before .before .before .before .before .before .before .before .before .before .before .before .before .before .before .before .before .before .before .before .before .before .before .before .before .before .before .cell6 .ensures) (c .before .before .before .before .before .before .before .before .before .before .before .before .before .before .before .before .before .before .before .before .before .before .before .before .before .before .before .before .before .before .before .cell62 .ensures) (c .before .before .before .before .before .before .before .before .before .before .before .before .before .before .before .before .before .before .before .before .before .before .before .before .before .before .before .before .position-at .ensures) (c .before .before .before .before .before .before .before .before .before .before .before .before .before .before .before .before .before .before .before .before .before .before .before .before .before .before .before .moved .ensures) (n .ensures .0) (n .ensures .1 (a .arcs .now) (a .edges .now) (a .faces .now)) (c .before .before .before .before .before .before .before .before .before .before .before .before .before .before .before .before .before .before .position-at2 .ensures) (c .before .before .before .before .before .before .before .before .before .before .before .before .before .before .before .before .before .moved2 .ensures) (o .ensures .0) (o .ensures .1 (a .arcs .now) (a .edges .now) (a .faces .now)) (t .ensures p) (c .answering .ensures mₑ)
+    arc-extrude-steps (mesh (a .vertices .now) (a .positions .now) (a .arcs .now) (a .edges .now) (a .faces .now) (a .counters .now)) (a .x) (a .by) (c .before .before .before .before .before .before .before .before .before .before .before .before .before .before .before .before .before .before .before .before .before .before .before .before .before .before .before .before .before .before .before .before .before .cell6 .result) (c .before .before .before .before .before .before .before .before .before .before .before .before .before .before .before .before .before .before .before .before .before .before .before .before .before .before .before .before .before .before .before .cell62 .result) (c .before .before .before .before .before .before .before .before .before .before .before .before .before .before .before .before .before .before .before .before .before .before .before .before .before .before .before .before .position-at .result) (c .before .before .before .before .before .before .before .before .before .before .before .before .before .before .before .before .before .before .before .before .before .before .before .before .before .before .before .moved .result) (c .before .before .before .before .before .before .before .before .before .before .before .before .before .before .before .before .before .before .position-at2 .result) (c .before .before .before .before .before .before .before .before .before .before .before .before .before .before .before .before .before .moved2 .result) (n .result) (o .result) (n .last .0) (n .last .1 .0) (n .last .1 .1 .0) (o .last .0) (o .last .1 .0) (o .last .1 .1 .0) mₑ (t .result) (c .answering .result) (c .before .before .before .before .before .before .before .before .before .before .before .before .before .before .before .before .before .before .before .before .before .before .before .before .before .before .before .before .before .before .before .before .before .cell6 .ensures) (c .before .before .before .before .before .before .before .before .before .before .before .before .before .before .before .before .before .before .before .before .before .before .before .before .before .before .before .before .before .before .before .cell62 .ensures) (c .before .before .before .before .before .before .before .before .before .before .before .before .before .before .before .before .before .before .before .before .before .before .before .before .before .before .before .before .position-at .ensures) (c .before .before .before .before .before .before .before .before .before .before .before .before .before .before .before .before .before .before .before .before .before .before .before .before .before .before .before .moved .ensures) (n .ensures .0) (n .ensures .1 (a .arcs .now) (a .edges .now) (a .faces .now)) (c .before .before .before .before .before .before .before .before .before .before .before .before .before .before .before .before .before .before .position-at2 .ensures) (c .before .before .before .before .before .before .before .before .before .before .before .before .before .before .before .before .before .moved2 .ensures) (o .ensures .0) (o .ensures .1 (a .arcs .now) (a .edges .now) (a .faces .now)) (t .ensures) (c .answering .ensures mₑ)
 
 pub arc-extrude-work-spec : {M : Type 1} → statement M
 arc-extrude-work-spec =
