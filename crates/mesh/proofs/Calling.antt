@@ -26,7 +26,8 @@ use Rattle.checks.proofs.Pairs.{given-few}
 use Rattle.order.proofs.Deciding.{not-given}
 use Rattle.order.proofs.Settling.{over-refused, over-accepted}
 use Rattle.order.specs.Transaction as T
-use Rattle.order.specs.Transaction.{Left, left, SameSize, Fits, beforeWork}
+use Rattle.order.specs.Transaction.{Left, left, SameSize, beforeWork}
+use Rattle.mesh.specs.Near.{Fits}
 
 argument-refused : accepted (Refused Argument) ≡ false
 unfolding accepted
@@ -107,14 +108,13 @@ enough-fits m r e =
     let f = and-true (leb (length (m .edges)) (length (r .edges))) _ (d .1) in
     (leb-true _ _ (a .0), leb-true _ _ (b .0), leb-true _ _ (d .0), leb-true _ _ (f .0), leb-true _ _ (f .1))
 
-pub ready-fits : (m : Mesh) (one two : Room) → ready m one two ≡ true → Fits (room (m .vertices) (m .positions) (m .arcs) (m .edges) (m .faces)) one (two .arcs) (two .edges)
+pub ready-fits : (m : Mesh) (one two : Room) → ready m one two ≡ true → Fits (room (m .vertices) (m .positions) (m .arcs) (m .edges) (m .faces)) one
 unfolding ready
 ready-fits m one two e =
     let q = and-true (sound m) (roomEnough m one && roomEnough m two) e in
     let h = and-true (roomEnough m one) (roomEnough m two) (q .1) in
     let a = enough-fits m one (h .0) in
-    let b = enough-fits m two (h .1) in
-    record { vertices = a .0; positions = a .1; arcs = a .2; edges = a .3; faces = a .4; past = b .2; pastedges = b .3 }
+    record { vertices = a .0; positions = a .1; arcs = a .2; edges = a .3; faces = a .4 }
 
 pub ready-sound : (m : Mesh) (one two : Room) → ready m one two ≡ true → sound m ≡ true
 unfolding ready

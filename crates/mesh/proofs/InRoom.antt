@@ -13,6 +13,7 @@ use Rattle.rules.specs.Call.{work, worked}
 use Rattle.proved.specs.Facts.{SoundFacts}
 use Rattle.proved.proofs.Rows.{true-T}
 use Rattle.proved.proofs.Clauses.{facts}
+use Rattle.makers.specs.Makers.{searching, workBy}
 use Rattle.kept.specs.Local.{Local, Reach}
 use Rattle.kept.proofs.Local.{local-wider}
 use Rattle.kept.proofs.EditReach.{edit-reach}
@@ -25,7 +26,7 @@ use Rattle.order.specs.Transaction as T
 use Rattle.order.specs.Transaction.{left}
 use Rattle.order.proofs.Settling.{copied-over, left-alone}
 use Rattle.mesh.specs.Near.{Begun, NearListed}
-use Rattle.mesh.proofs.Keeping.{behind}
+use Rattle.mesh.proofs.Keeping.{behind, by-rules}
 
 module _ (m : Mesh) (e : Edit) (keys : List ℕ) (b : Begun m e keys) (list : List ℕ) (c : ℕ) (near : NearListed m e keys list c) where
   s : SoundFacts m
@@ -63,6 +64,8 @@ module _ (m : Mesh) (e : Edit) (keys : List ℕ) (t : Step) (is : t ≡ work m e
   pub not-done : accepted x ≡ false → left x m ≡ T.over m (worked (work m e keys))
   not-done a = left-alone m (t .tables) (t .answer) x settled a ∙ ap (λ (z : Step). T.over m (worked z)) is
 
--- the work on a copy of the mesh is the work on the mesh
-pub on-copy : (m : Mesh) (r : Room) (e : Edit) (keys : List ℕ) (t : Step) → r ≡ room (m .vertices) (m .positions) (m .arcs) (m .edges) (m .faces) → t ≡ work (mesh (r .vertices) (r .positions) (r .arcs) (r .edges) (r .faces) (m .counters)) e keys → t ≡ work m e keys
-on-copy m r e keys t er et = et ∙ ap (λ (z : Room). work (mesh (z .vertices) (z .positions) (z .arcs) (z .edges) (z .faces) (m .counters)) e keys) er
+-- the work by the code's makers on a copy of the mesh is the work on the mesh
+pub on-copy : (m : Mesh) (r : Room) (e : Edit) (keys : List ℕ) (t : Step) → Begun m e keys → r ≡ room (m .vertices) (m .positions) (m .arcs) (m .edges) (m .faces) → t ≡ workBy searching (mesh (r .vertices) (r .positions) (r .arcs) (r .edges) (r .faces) (m .counters)) e keys → t ≡ work m e keys
+on-copy m r e keys t b er et =
+    et ∙ ap (λ (z : Room). workBy searching (mesh (z .vertices) (z .positions) (z .arcs) (z .edges) (z .faces) (m .counters)) e keys) er
+    ∙ by-rules m e keys (b .three) (b .whole) (b .passed)

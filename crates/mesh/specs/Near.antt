@@ -1,4 +1,4 @@
--- An edit that is about to begin, and the arcs near it, listed.
+-- An edit that is about to begin, the room for it, and the arcs near it, listed.
 use Prim.Native.Nat.{ℕ, _≤_}
 use mathlib.Core.Path.{_≡_}
 use mathlib.Core.Bool.{Bool, true}
@@ -7,7 +7,7 @@ use lib.Dec.{T}
 use lib.ListN.{length, take}
 use Rattle.rules.specs.declared.Edit.{Edit}
 use Rattle.rules.specs.Table.{has}
-use Rattle.rules.specs.Mesh.{Mesh}
+use Rattle.rules.specs.Mesh.{Mesh, Room}
 use Rattle.rules.specs.Step.{accepted}
 use Rattle.rules.specs.Sound.{sound}
 use Rattle.kept.specs.Frame.{ThreeCounters}
@@ -21,6 +21,14 @@ pub record Begun (m : Mesh) (e : Edit) (keys : List ℕ) : Type 0 where
   pub three : ThreeCounters m
   pub whole : sound m ≡ true
   pub passed : accepted (beforeWork m e keys) ≡ true
+
+-- a room whose tables are not shorter than those of m
+pub record Fits (m r : Room) : Type 0 where
+  pub vertices : length (m .vertices) ≤ length (r .vertices)
+  pub positions : length (m .positions) ≤ length (r .positions)
+  pub arcs : length (m .arcs) ≤ length (r .arcs)
+  pub edges : length (m .edges) ≤ length (r .edges)
+  pub faces : length (m .faces) ≤ length (r .faces)
 
 -- of n links all arcs stand in the list that leave or reach a vertex with a mark, and each vertex of the edit has one; where there are too many to
 -- list, or the rings near the edit do not tell, it says nothing

@@ -28,8 +28,8 @@ ghost use Prim.Native.Nat.{ℕ, _≤_};
 ghost use Rattle.rules.specs.declared.Edit.the-variants.{FaceInsert};
 ghost use Rattle.rules.specs.Sound.{sound};
 ghost use Rattle.rules.specs.Call.{work, worked, decided, called, outcome};
-ghost use Rattle.order.specs.Transaction.{left, over, SameSize, Fits};
-ghost use Rattle.mesh.specs.Near.{NearListed, Begun};
+ghost use Rattle.order.specs.Transaction.{left, over, SameSize};
+ghost use Rattle.mesh.specs.Near.{Fits, NearListed, Begun};
 
 // The arcs near an edit, listed: how many links, or too many where the rings near it do not tell. A face insert has at most 64 keys.
 fn list_near(
@@ -69,8 +69,6 @@ fn work_listed(
     a: &mut [ArcRow],
     e: &mut [EdgeRow],
     f: &mut [FaceRow],
-    past: &mut [ArcRow],
-    pastedges: &mut [EdgeRow],
     list: &[u32; LISTED],
     n: usize,
     edit: Edit,
@@ -78,7 +76,6 @@ fn work_listed(
 ) -> Answer
     requires { ⌜ Begun (meshNow vertices positions arcs edges faces counters) edit (now keys) ⌝ }
     requires { ⌜ SameSize (roomNow vertices positions arcs edges faces) (roomNow v p a e f) ⌝ }
-    requires { ⌜ (length (now past) ≡ length (now arcs)) × (length (now pastedges) ≡ length (now edges)) ⌝ }
     requires { ⌜ NearListed (meshNow vertices positions arcs edges faces counters) edit (now keys) (now list) n ⌝ }
     ensures { λ r. ⌜
         left r (meshAfter vertices positions arcs edges faces counters)
@@ -89,7 +86,7 @@ fn work_listed(
     rows::known_rows(arcs);
     rooms::copy_in(v, p, a, e, f, vertices, positions, arcs, edges, faces);
     let mut k = *counters;
-    let told = choice::work(v, p, a, e, f, &mut k, past, pastedges, edit, keys);
+    let told = choice::work(v, p, a, e, f, &mut k, edit, keys);
     rows::known_rows(a);
     let answer = settle::judged(v, p, a, e, f, &k, list, n, counters[2], told);
     if !answers::accepted(answer) {
@@ -126,14 +123,11 @@ fn work_in_room(
     a: &mut [ArcRow],
     e: &mut [EdgeRow],
     f: &mut [FaceRow],
-    past: &mut [ArcRow],
-    pastedges: &mut [EdgeRow],
     edit: Edit,
     keys: &[u32],
 ) -> Answer
     requires { ⌜ Begun (meshNow vertices positions arcs edges faces counters) edit (now keys) ⌝ }
     requires { ⌜ SameSize (roomNow vertices positions arcs edges faces) (roomNow v p a e f) ⌝ }
-    requires { ⌜ (length (now past) ≡ length (now arcs)) × (length (now pastedges) ≡ length (now edges)) ⌝ }
     ensures { λ r. ⌜
         left r (meshAfter vertices positions arcs edges faces counters)
         ≡ over (meshBefore vertices positions arcs edges faces counters)
@@ -154,8 +148,6 @@ fn work_in_room(
         a,
         e,
         f,
-        past,
-        pastedges,
         &list,
         n,
         edit,
@@ -181,14 +173,11 @@ fn perform(
     a: &mut [ArcRow],
     e: &mut [EdgeRow],
     f: &mut [FaceRow],
-    past: &mut [ArcRow],
-    pastedges: &mut [EdgeRow],
     edit: Edit,
     keys: &[u32],
 ) -> Answer
     requires { ⌜ sound (meshNow vertices positions arcs edges faces counters) ≡ true ⌝ }
     requires { ⌜ SameSize (roomNow vertices positions arcs edges faces) (roomNow v p a e f) ⌝ }
-    requires { ⌜ (length (now past) ≡ length (now arcs)) × (length (now pastedges) ≡ length (now edges)) ⌝ }
     ensures { λ r. ⌜
         left r (meshAfter vertices positions arcs edges faces counters)
         ≡ over (meshBefore vertices positions arcs edges faces counters)
@@ -217,8 +206,6 @@ fn perform(
             edges,
             faces,
             counters,
-            past,
-            pastedges,
             edit,
             keys,
         );
@@ -235,14 +222,12 @@ fn perform(
         a,
         e,
         f,
-        past,
-        pastedges,
         edit,
         keys,
     )
 }
 
-// The edit on a sound mesh with rooms that may be larger than it: in the parts of them that are as long as the mesh.
+// The edit on a sound mesh with room that may be larger than it: in the parts of it that are as long as the mesh.
 fn perform_in_parts(
     vertices: &mut [VertexRow],
     positions: &mut [PositionRow],
@@ -255,13 +240,11 @@ fn perform_in_parts(
     a: &mut [ArcRow],
     e: &mut [EdgeRow],
     f: &mut [FaceRow],
-    past: &mut [ArcRow],
-    pastedges: &mut [EdgeRow],
     edit: Edit,
     keys: &[u32],
 ) -> Answer
     requires { ⌜ sound (meshNow vertices positions arcs edges faces counters) ≡ true ⌝ }
-    requires { ⌜ Fits (roomNow vertices positions arcs edges faces) (roomNow v p a e f) (now past) (now pastedges) ⌝ }
+    requires { ⌜ Fits (roomNow vertices positions arcs edges faces) (roomNow v p a e f) ⌝ }
     ensures { λ r. ⌜
         left r (meshAfter vertices positions arcs edges faces counters)
         ≡ over (meshBefore vertices positions arcs edges faces counters)
@@ -285,8 +268,6 @@ fn perform_in_parts(
         &mut a[0..na],
         &mut e[0..ne],
         &mut f[0..nf],
-        &mut past[0..na],
-        &mut pastedges[0..ne],
         edit,
         keys,
     )
@@ -352,8 +333,6 @@ pub fn change(
         a1,
         e1,
         f1,
-        a2,
-        e2,
         edit,
         keys,
     );
