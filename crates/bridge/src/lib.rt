@@ -141,6 +141,15 @@ pub fn bridge_work(
     let back = checks::rings::ring_of(arcs, faces, g);
     edges::face::remove_face(arcs, faces, f);
     edges::face::remove_face(arcs, faces, g);
-    let told = pairs_near(vertices, positions, arcs, edges, faces, counters, forth, back);
+    let told = pairs_near(
+        vertices,
+        positions,
+        arcs,
+        edges,
+        faces,
+        counters,
+        forth,
+        back,
+    );
     pieces::answering(Answer::Key(0), told)
 }

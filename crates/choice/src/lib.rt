@@ -96,7 +96,17 @@ fn face_split(
     let f = rows::find_key3(faces, face);
     let from = rows::find_key2(vertices, s);
     let to = rows::find_key2(vertices, d);
-    split::split_work(vertices, positions, arcs, edges, faces, counters, f, from, to)
+    split::split_work(
+        vertices,
+        positions,
+        arcs,
+        edges,
+        faces,
+        counters,
+        f,
+        from,
+        to,
+    )
 }
 
 fn face_poke(

@@ -12,11 +12,12 @@ use Rattle.rules.specs.declared.Answer.{Answer}
 use Rattle.rules.specs.declared.Answer.the-variants.{Key, Arc, Done}
 use Rattle.rules.specs.declared.Links.{Links}
 use Rattle.rules.specs.declared.Position.{Position}
+use Rattle.rules.specs.declared.Vertex.{Vertex}
 use Rattle.rules.specs.declared.Move.{Move}
 use Rattle.rules.specs.Table.{Table, freeRow, upTo, after}
 use Rattle.rules.specs.Mesh.{Mesh, mesh, source, dest, mark, vertexKind, faceKind, nextKey, keyAt, linksOf, listOf}
-use Rattle.rules.specs.Point.{positionAt, moved}
-use Rattle.rules.specs.Link.{ring, ringVertices, newVertex}
+use Rattle.rules.specs.Point.{moved}
+use Rattle.rules.specs.Link.{ring, ringVertices, vertexAt, newVertex}
 use Rattle.rules.specs.Step.{Step, step, accepted, andThen, answering}
 use Rattle.rules.specs.Insert.{insertChecks}
 use Rattle.rules.specs.Edit.{remove, half, corners}
@@ -120,16 +121,17 @@ module _ (m n : Mesh) (f s d : ℕ) (left right : Links) (el : left ≡ linksOf 
 abbrev pub copyAt : Move → List ℕ → ℕ → Copies → Copies
 copyAt move vs i c = copyOne move (getD vs i 0) c
 
-moved-is : (m : Mesh) (move : Move) (v : ℕ) (old place : Position) → old ≡ positionAt (m .positions) v → place ≡ moved old move → place ≡ movedPosition m move v
-unfolding movedPosition
-moved-is m move v old place eo ep = ep ∙ ap (λ (p : Position). moved p move) eo
+-- the position of a vertex, moved
+moved-is : (m : Mesh) (move : Move) (v : ℕ) (old : Vertex) (place : Position) → old ≡ vertexAt m v → place ≡ moved (old .position) move → place ≡ movedPosition m move v
+unfolding movedPosition vertexAt
+moved-is m move v old place eo ep = ep ∙ ap (λ (x : Vertex). moved (x .position) move) eo
 
 one-copy : (move : Move) (v : ℕ) (m : Mesh) (l : List ℕ) → copyOne move v (record { tables = m; links = l }) ≡ record { tables = newVertex m (movedPosition m move v); links = l ++ (freeRow (m .vertices) ∷ []) }
 unfolding copyOne
 one-copy move v m l = refl
 
-pub copies-more : (move : Move) (vs : List ℕ) (c₀ : Copies) (m m′ : Mesh) (at : List ℕ) (i v x : ℕ) (old place : Position)
-    → i < length at → record { tables = m; links = take i at } ≡ upTo (copyAt move vs) i c₀ → v ≡ getD vs i 0 → old ≡ positionAt (m .positions) v → place ≡ moved old move → x ≡ freeRow (m .vertices) → m′ ≡ newVertex m place
+pub copies-more : (move : Move) (vs : List ℕ) (c₀ : Copies) (m m′ : Mesh) (at : List ℕ) (i v x : ℕ) (old : Vertex) (place : Position)
+    → i < length at → record { tables = m; links = take i at } ≡ upTo (copyAt move vs) i c₀ → v ≡ getD vs i 0 → old ≡ vertexAt m v → place ≡ moved (old .position) move → x ≡ freeRow (m .vertices) → m′ ≡ newVertex m place
     → record { tables = m′; links = take (i + 1) (set at i x) } ≡ upTo (copyAt move vs) (i + 1) c₀
 copies-more move vs c₀ m m′ at i v x old place l h ev eo ep ex em =
     let put : take (i + 1) (set at i x) ≡ take i at ++ (freeRow (m .vertices) ∷ []) = rw (add-one i) (take-suc-set at i x l ∙ ap (λ (y : ℕ). take i at ++ (y ∷ [])) ex) in
@@ -173,15 +175,15 @@ extrude-steps m f move vs ds a₁ f₁ v₂ p₂ k₂ mₑ told r evs gone made 
 
 -- ---- arc extrude
 
-pub arc-extrude-steps : (m : Mesh) (x : ℕ) (move : Move) (b a : ℕ) (old₁ place₁ old₂ place₂ : Position) (c d : ℕ) (v₁ : Table) (p₁ : List (List Float)) (k₁ : List ℕ) (v₂ : Table) (p₂ : List (List Float)) (k₂ : List ℕ) (mₑ : Mesh) (told r : Answer)
+pub arc-extrude-steps : (m : Mesh) (x : ℕ) (move : Move) (b a : ℕ) (old₁ old₂ : Vertex) (place₁ place₂ : Position) (c d : ℕ) (v₁ : Table) (p₁ : List (List Float)) (k₁ : List ℕ) (v₂ : Table) (p₂ : List (List Float)) (k₂ : List ℕ) (mₑ : Mesh) (told r : Answer)
     → b ≡ dest m x → a ≡ source m x
-    → old₁ ≡ positionAt (m .positions) b → place₁ ≡ moved old₁ move → c ≡ freeRow (m .vertices) → mesh v₁ p₁ (m .arcs) (m .edges) (m .faces) k₁ ≡ newVertex m place₁
-    → old₂ ≡ positionAt p₁ a → place₂ ≡ moved old₂ move → d ≡ freeRow v₁ → mesh v₂ p₂ (m .arcs) (m .edges) (m .faces) k₂ ≡ newVertex (mesh v₁ p₁ (m .arcs) (m .edges) (m .faces) k₁) place₂
+    → old₁ ≡ vertexAt m b → place₁ ≡ moved (old₁ .position) move → c ≡ freeRow (m .vertices) → mesh v₁ p₁ (m .arcs) (m .edges) (m .faces) k₁ ≡ newVertex m place₁
+    → old₂ ≡ vertexAt (mesh v₁ p₁ (m .arcs) (m .edges) (m .faces) k₁) a → place₂ ≡ moved (old₂ .position) move → d ≡ freeRow v₁ → mesh v₂ p₂ (m .arcs) (m .edges) (m .faces) k₂ ≡ newVertex (mesh v₁ p₁ (m .arcs) (m .edges) (m .faces) k₁) place₂
     → step mₑ told ≡ joinedBy searching (mesh v₂ p₂ (m .arcs) (m .edges) (m .faces) k₂) x c d
     → step mₑ r ≡ answering (Arc (nextKey m vertexKind) (getD k₁ 0 0)) (step mₑ told)
     → step mₑ r ≡ arcExtrudeWorkBy searching m x move
 unfolding arcExtrudeWorkBy joinedBy
-arc-extrude-steps m x move b a old₁ place₁ old₂ place₂ c d v₁ p₁ k₁ v₂ p₂ k₂ mₑ told r eb ea eo₁ ep₁ ec made₁ eo₂ ep₂ ed made₂ joined whole =
+arc-extrude-steps m x move b a old₁ old₂ place₁ place₂ c d v₁ p₁ k₁ v₂ p₂ k₂ mₑ told r eb ea eo₁ ep₁ ec made₁ eo₂ ep₂ ed made₂ joined whole =
     let m₁ : Mesh = mesh v₁ p₁ (m .arcs) (m .edges) (m .faces) k₁ in
     let n₁ : m₁ ≡ newVertex m (movedPosition m move (dest m x)) = made₁ ∙ ap (newVertex m) (moved-is m move b old₁ place₁ eo₁ ep₁ ∙ ap (movedPosition m move) eb) in
     let n₂ : mesh v₂ p₂ (m .arcs) (m .edges) (m .faces) k₂ ≡ newVertex m₁ (movedPosition m₁ move (source m x)) = made₂ ∙ ap (newVertex m₁) (moved-is m₁ move a old₂ place₂ eo₂ ep₂ ∙ ap (movedPosition m₁ move) ea) in

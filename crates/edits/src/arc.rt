@@ -18,6 +18,7 @@ use rules::VertexRow;
 use tables::answers;
 use tables::points;
 use tables::rows;
+use tables::vertices;
 ghost use mathlib.Core.Path.{_≡_};
 ghost use mathlib.Core.List.{List};
 ghost use lib.Ieee.{Float};
@@ -172,11 +173,25 @@ pub fn arc_extrude_work(
     let b = rows::cell6(arcs, x, 1);
     let a = rows::cell6(arcs, x, 0);
     let first = counters[0];
-    let place = points::moved(points::position_at(positions, b), by);
+    let old = vertices::vertex_at(vertices, positions, b);
+    let place = points::moved(old.position, by);
     let c = edges::vertex::new_vertex(vertices, positions, counters, 0, place);
     let second = counters[0];
-    let other = points::moved(points::position_at(positions, a), by);
-    let d = edges::vertex::new_vertex(vertices, positions, counters, 0, other);
-    let told = joined(vertices, positions, arcs, edges, faces, counters, x, a, b, c, d);
+    let other = vertices::vertex_at(vertices, positions, a);
+    let beside = points::moved(other.position, by);
+    let d = edges::vertex::new_vertex(vertices, positions, counters, 0, beside);
+    let told = joined(
+        vertices,
+        positions,
+        arcs,
+        edges,
+        faces,
+        counters,
+        x,
+        a,
+        b,
+        c,
+        d,
+    );
     pieces::answering(Answer::Arc(first, second), told)
 }

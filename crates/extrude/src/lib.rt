@@ -18,6 +18,7 @@ use rules::RING;
 use rules::VertexRow;
 use tables::answers;
 use tables::points;
+use tables::vertices;
 ghost use mathlib.Core.Path.{_≡_};
 ghost use mathlib.Core.List.{List};
 ghost use Prim.Native.Nat.{ℕ, _<_};
@@ -54,7 +55,8 @@ fn copies_in(
     let mut i: usize = 0;
     while i < n {
         let v = lists::item(vs, i);
-        let place = points::moved(points::position_at(positions, v), by);
+        let old = vertices::vertex_at(vertices, positions, v);
+        let place = points::moved(old.position, by);
         from = edges::vertex::new_vertex(vertices, positions, counters, from, place);
         at[i] = from;
         i += 1;

@@ -150,6 +150,16 @@ pub fn poke_work(
     let key = counters[0];
     edges::face::remove_face(arcs, faces, f);
     let c = edges::vertex::new_vertex(vertices, positions, counters, 0, position);
-    let told = parts_near(vertices, positions, arcs, edges, faces, counters, vs, c, mark);
+    let told = parts_near(
+        vertices,
+        positions,
+        arcs,
+        edges,
+        faces,
+        counters,
+        vs,
+        c,
+        mark,
+    );
     pieces::answering(Answer::Key(key), told)
 }

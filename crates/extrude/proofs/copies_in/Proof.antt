@@ -26,11 +26,11 @@ loop-holds c = (search needs, (refl, (refl, (refl, (used-none (c .before .before
 
 loop-again : tie.Need-loop-again Inv-loop μ-loop
 loop-again c =
-    let s = c .before .before .before .before .before .before .before .before .before .before .before .before .before .before .args in
-    let l = c .before .before .before .before .before .before .before .before .before .before .before .loop in
+    let s = c .before .before .before .before .before .before .before .before .before .before .before .before .before .before .before .args in
+    let l = c .before .before .before .before .before .before .before .before .before .before .before .before .loop in
     let g = c .before .before .new-vertex in
     let v = l .inv .1 in
-    let short : l .i < length (l .at) = omega (arith, c .before .before .before .before .before .before .before .before .before .before .before .before .before .size .ensures, c .before .before .before .before .before .before .before .before .before .before .before .before .known-few .ensures, c .before .before .before .before .before .before .before .before .before .before .loop-test .taken, v .1 .1 .0) in (
+    let short : l .i < length (l .at) = omega (arith, c .before .before .before .before .before .before .before .before .before .before .before .before .before .before .size .ensures, c .before .before .before .before .before .before .before .before .before .before .before .before .before .known-few .ensures, c .before .before .before .before .before .before .before .before .before .before .before .loop-test .taken, v .1 .1 .0) in (
       search needs,
       (
         g .kept .0 ∙ v .0,
@@ -40,7 +40,7 @@ loop-again c =
             length-set (l .at) (l .i) (g .result) ∙ v .1 .1 .0,
             (
               next-from (mesh (l .vertices) (l .positions) [] [] [] (l .counters)) (mesh (g .last .0) (g .last .1 .0) [] [] [] (g .last .1 .1 .0)) (c .before .before .before .before .before .before .moved .result) (g .result) (g .ensures .0) (g .ensures .1 [] [] []),
-              λ a e f. copies-more (s .by) (listOf (s .vs)) (record { tables = mesh (s .vertices .now) (s .positions .now) a e f (s .counters .now); links = [] }) (mesh (l .vertices) (l .positions) a e f (l .counters)) (mesh (g .last .0) (g .last .1 .0) a e f (g .last .1 .1 .0)) (l .at) (l .i) (c .before .before .before .before .before .before .before .before .before .item .result) (g .result) (c .before .before .before .before .before .before .before .position-at .result) (c .before .before .before .before .before .before .moved .result) short (v .1 .1 .1 .1 a e f) (c .before .before .before .before .before .before .before .before .before .item .ensures) (c .before .before .before .before .before .before .before .position-at .ensures) (c .before .before .before .before .before .before .moved .ensures) (g .ensures .0) (g .ensures .1 a e f),
+              λ a e f. copies-more (s .by) (listOf (s .vs)) (record { tables = mesh (s .vertices .now) (s .positions .now) a e f (s .counters .now); links = [] }) (mesh (l .vertices) (l .positions) a e f (l .counters)) (mesh (g .last .0) (g .last .1 .0) a e f (g .last .1 .1 .0)) (l .at) (l .i) (c .before .before .before .before .before .before .before .before .before .before .item .result) (g .result) (c .before .before .before .before .before .before .before .vertex-at .result) (c .before .before .before .before .before .before .moved .result) short (v .1 .1 .1 .1 a e f) (c .before .before .before .before .before .before .before .before .before .before .item .ensures) (c .before .before .before .before .before .before .before .vertex-at .ensures a e f (l .counters)) (c .before .before .before .before .before .before .moved .ensures) (g .ensures .0) (g .ensures .1 a e f),
             ),
           ),
         ),
