@@ -1,4 +1,4 @@
-// Runs the leaves of tables, walks, lists and edges on small tables, and prints what each found, one line for each.
+// Runs the leaves of tables, walks, lists and edges, and the search of insert, on small tables, and prints what each found, one line for each.
 // A link is a row plus one, and 0 is none. The file stdout beside src has the whole text.
 
 mod cells;
