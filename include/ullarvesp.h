@@ -112,8 +112,9 @@ typedef struct {
 /* ---- Answers ------------------------------------------------------------------------------------------------------------------------ */
 
 /* The rule book's numbers. Where two refusals could be given, the order is: 1; 2 for what the caller gave; 3 to 6 and 13 as each call checks;
- * 2 for moved coordinates; 7; 3 to 6 and 13 found in mid-edit; 8. 13 is found by the checks of a face insert, between 4 and 5: those of a
- * face insert itself and of an arc bridge come before 7, those of a face that another edit puts in are in mid-edit. */
+ * 2 for moved coordinates; 7; 3 to 6 and 13 found in mid-edit; 8. 13 is found by the checks of a face insert, between 4 and 5 (an arc bridge
+ * has a 5 of its own before them): those of a face insert and of an arc bridge come before 7, those of a face that another edit puts in are
+ * in mid-edit. */
 enum {
     UL_DONE = 0,
     UL_TABLES = 1,                /* a table is unsound or over the limit, or working room is too small */
