@@ -139,3 +139,28 @@ further =
     ∷ ask cramped "v 0 0 0"
     ∷ ask (desk 8 12 5) "v 0 0 1000001"
     ∷ []
+
+-- document 02's L6: three corners, of which the first and second, the last and first, or none are in one spot; and a corner in one spot with another
+-- beside a face, or before a next that leads back
+unfoldable pub firstTwo : String
+firstTwo = "v 0 0 0\nv 0 0 0\nv 2 0 0\n"
+
+unfoldable pub lastAndFirst : String
+lastAndFirst = "v 0 0 0\nv 1 0 0\nv 0 0 0\n"
+
+unfoldable pub oneAbove : String
+oneAbove = "v 0 0 0\nv 0 0 1\nv 2 0 0\n"
+
+unfoldable pub besideFace : String
+besideFace = "v 0 0 0\nv 4 0 0\nv 4 4 0\nv 4 4 0\nf 7 0 1 2\n"
+
+-- 13 for neighbours, across the end too; not if a coordinate differs; after 4; before an arc with a face, and before one that leads back
+unfoldable pub spots : List (List ℕ)
+spots =
+    ask (after firstTwo) "f 7 0 1 2"
+    ∷ ask (after lastAndFirst) "f 7 0 1 2"
+    ∷ ask (after oneAbove) "f 7 0 1 2"
+    ∷ ask (after firstTwo) "f 7 0 1 9"
+    ∷ ask (after besideFace) "f 7 1 2 3"
+    ∷ ask (after besideFace) "f 7 1 0 3 2"
+    ∷ []
