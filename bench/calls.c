@@ -100,11 +100,12 @@ static uint32_t panel(const uint32_t *corners, size_t count) {
     return reply.key;
 }
 
-/* A triangle of its own, its panels poked one after the other as they came to be, up to one where the poke would break the mesh: its key. */
+/* A triangle of its own, its panels poked one after the other as they came to be, each in a spot of its own, up to one where the poke would
+ * break the mesh: its key. */
 static uint32_t would_break(void) {
     uint32_t corners[3] = {corner(200, 0, 0), corner(201, 0, 0), corner(200, 1, 0)};
     uint32_t next = ul_face_insert(UL_LENT(mesh), 7, corners, 3).key;
-    while (ul_face_poke(UL_LENT(mesh), next, 200, 0, 1).number == UL_DONE) next++;
+    while (ul_face_poke(UL_LENT(mesh), next, 200, 0, 1 + next).number == UL_DONE) next++;
     return next;
 }
 
@@ -151,7 +152,7 @@ int main(void) {
     TIMED("face extrude, shift", ul_face_extrude_shift(UL_LENT(mesh), face, 1, 2, 3));
     TIMED("arc bridge", ul_arc_bridge(UL_LENT(mesh), apart[1][1], apart[1][0], apart[2][1], apart[2][0]));
     TIMED("arc extrude, shift", ul_arc_extrude_shift(UL_LENT(mesh), apart[1][1], apart[1][0], 1, 2, 3));
-    TIMED("face poke, would break", ul_face_poke(UL_LENT(mesh), broken, 200, 0, 1));
+    TIMED("face poke, would break", ul_face_poke(UL_LENT(mesh), broken, 200, 0, 1 + broken));
     TIMED("face insert, 64 corners", ul_face_insert(UL_LENT(mesh), 7, rims[0], MOST));
     TIMED("face remove, 64 corners", ul_face_remove(UL_LENT(mesh), low));
     TIMED("face split, 64 corners", ul_face_split(UL_LENT(mesh), low, rims[1][0], rims[1][MOST / 2]));

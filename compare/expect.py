@@ -5,10 +5,14 @@ document 01's own, each worked out here:
   3  fewer than three keys (the oracle answers it before the Rust)
   7  free rows fewer than the edit's need, in tables of 64 vertices, 128 edges and 64 faces
   8  an accepted edit that the oracle calls unsound
+ 13  two neighbouring corners of a face that goes in stand in one spot
 
-Their order is document 01's: 2; the Rust's refusals before its first change; 7; its refusals in mid-edit; 8. The oracle has no
-tables, so a line answered 7 is taken out of the script that it is given. Coordinates are whole and small: none ceases to be finite."""
+Their order is the rule book's: 2; the Rust's refusals before its first change; 7; its refusals in mid-edit; 8. 13 comes where the edit inserts
+a face: after 3 and 4 and before 5, and behind an arc bridge's own 5. So it is before 7 for a face insert and an arc bridge, and in mid-edit for
+the others. The oracle has no tables and no 13, so a line that is answered 7 or 13 is taken out of the script that it is given. Coordinates are
+whole and small: none ceases to be finite."""
 import re
+import struct
 import subprocess
 
 ROWS = (64, 128, 64)
@@ -78,11 +82,12 @@ class Records:
     def parse(self):
         if self.read:
             return
-        self.read, self.vertices, self.arcs, self.first = True, [], {}, {}
+        self.read, self.vertices, self.positions, self.arcs, self.first = True, [], {}, {}, {}
         for line in self.lines:
             words = line.split(" ")
             if words[0] == "V":
                 self.vertices.append(int(words[1]))
+                self.positions[self.vertices[-1]] = tuple(struct.unpack(">d", bytes.fromhex(bits[2:]))[0] for bits in words[2:5])
             elif words[0] == "A":
                 s, d, n, m = (int(w) if w != "-" else None for w in words[1:5])
                 self.arcs[s, d] = ((n, m) if n is not None else None, int(words[7]) if words[7] != "-" else None)
@@ -96,6 +101,9 @@ class Records:
         while self.arcs[arcs[-1]][0] != arcs[0]:
             arcs.append(self.arcs[arcs[-1]][0])
         return arcs
+
+    def ring_vertices(self, face):
+        return [d for _, d in self.ring(face)]
 
     def without_arc(self, keys):
         self.parse()
@@ -123,6 +131,59 @@ def need(call, records):
     return {"p": (1, n, n - 1), "x": (n, 2 * n, n), "b": (0, n, n - 2)}[letter]
 
 
+# ---- corners in one spot
+
+def walls(call, records):
+    """The arcs that a bridge pairs, in its order: the source's ring with the destination's, from its last to its first."""
+    return list(zip(records.ring(call[1][0]), records.ring(call[1][1])[::-1]))
+
+
+def faces_in(call, records):
+    """The faces that an edit inserts, in its order, each as its corners' positions. The edit has passed the Rust's checks of its keys."""
+    letter, values = call
+    records.parse()
+    at = records.positions
+
+    def shifted(vertex):
+        return tuple(p + d for p, d in zip(at[vertex], values[-3:]))
+
+    if letter in "fj":
+        return [[at[key] for key in (values[1:] if letter == "f" else values)]]
+    if letter == "a":
+        s, d = values[:2]
+        return [[at[s], at[d], shifted(d), shifted(s)]]
+    if letter == "b":
+        return [[at[key] for key in first + second] for first, second in walls(call, records)]
+    if letter not in "spx":
+        return []
+    ring = records.ring_vertices(values[0])
+    pairs = list(zip(ring, ring[1:] + ring[:1]))
+    if letter == "p":
+        return [[at[a], at[b], tuple(float(x) for x in values[1:])] for a, b in pairs]
+    if letter == "x":
+        return [[shifted(a) for a in ring]] + [[at[a], at[b], shifted(b), shifted(a)] for a, b in pairs]
+    s, d = (ring.index(key) for key in values[1:])
+    return [[at[ring[(start + k) % len(ring)]] for k in range((end - start) % len(ring) + 1)] for start, end in ((s, d), (d, s))]
+
+
+def has_hair(corners):
+    """A corner and the one after it, the last and first too, have all three coordinates equal; -0.0 == 0.0 holds."""
+    return any(a == b for a, b in zip(corners, corners[1:] + corners[:1]))
+
+
+def same_place(oracle, call, answer, before):
+    """13: some face that goes in has two neighbouring corners in one spot, and no refusal stands before that face's check. Of the edits that
+    insert more than one face the Rust refuses a bridge alone in mid-edit; so only there it has to be found out which came first."""
+    hairs = [has_hair(corners) for corners in faces_in(call, before)]
+    if True not in hairs:
+        return False
+    if answer.startswith("no") and call[0] in "spx":
+        raise RuntimeError("refused in mid-edit: %s: %s\n%s" % (plain(call), answer, "\n".join(before.lines)))
+    if answer.startswith("no") and call[0] == "b":
+        return oracle.walls_pass(before, call, hairs.index(True), answer)
+    return True
+
+
 # ---- answers
 
 def refused_before_first_change(call, answer):
@@ -133,10 +194,24 @@ def refused_before_first_change(call, answer):
     return not in_edit or call[0] == "j" or call[0] == "b" and call[1][0] == call[1][1]
 
 
-def no_room(call, answer, before):
-    if refused_before_first_change(call, answer):
-        return False
+def at_hair(call, answer):
+    """Whether a face insert or an arc bridge comes as far as 13, which is after 3, 4 and an arc bridge's own 5, and before insert's 5."""
+    return not answer.startswith("no") or answer.startswith("no 5") and (call[0] == "f" or answer.endswith(" edit"))
+
+
+def no_room(call, before):
     return any(n > rows - used for n, rows, used in zip(need(call, before), ROWS, before.counts))
+
+
+def ours(oracle, call, answer, before):
+    """7 or 13, where the order has one of them before the oracle's answer; or none."""
+    if call[0] in "fj" and at_hair(call, answer) and same_place(oracle, call, answer, before):
+        return "no 13"
+    if refused_before_first_change(call, answer):
+        return None
+    if no_room(call, before):
+        return "no 7"
+    return "no 13" if same_place(oracle, call, answer, before) else None
 
 
 def told(answer):
@@ -151,7 +226,7 @@ class Oracle:
         self.program = program
 
     def text(self, flags, lines):
-        done = subprocess.run([self.program, "--sound"] + flags, input="".join(line + "\n" for line in lines), capture_output=True, text=True)
+        done = subprocess.run([self.program] + flags, input="".join(line + "\n" for line in lines), capture_output=True, text=True)
         if done.returncode or "panic" in done.stdout:
             raise RuntimeError("the oracle failed (%d) %s\n%s" % (done.returncode, done.stderr, "\n".join(lines)))
         return done.stdout.splitlines()
@@ -159,12 +234,24 @@ class Oracle:
     def steps(self, records, calls):
         """Each call's answer and the records after it, from a mesh of these records."""
         found = []
-        for line in self.text(["--dump", "--names"], ["load"] + records.lines + [plain(call) for call in calls])[:-1]:
+        for line in self.text(["--sound", "--dump", "--names"], ["load"] + records.lines + [plain(call) for call in calls])[:-1]:
             if line[:2] in ("ok", "no"):
                 found.append((line, []))
             else:
                 found[-1][1].append(line)
         return [(answer, Records(lines)) for answer, lines in found[1:]]
+
+    def walls_pass(self, records, call, hair, answer):
+        """A bridge that the Rust refuses in mid-edit, done step by step: whether it comes to the check of its wall of this number, 13's."""
+        bridged = [("j", list(first + second)) for first, second in walls(call, records)[:hair + 1]]
+        lines = [plain(step) for step in [("r", call[1][:1]), ("r", call[1][1:])] + bridged]
+        found = self.text(["--names"], ["load"] + records.lines + lines)[3:-1]
+        at = next((k for k, step in enumerate(found) if step.startswith("no")), None)
+        if at is None or at == hair and at_hair(bridged[hair], found[hair]):
+            return True
+        if told(found[at]) != told(answer):
+            raise RuntimeError("a bridge step by step is refused otherwise: %s, not %s\n%s" % (found, answer, "\n".join(records.lines + [plain(call)])))
+        return False
 
 
 class Run:
@@ -178,7 +265,7 @@ class Run:
             lines = lines[self.begin(lines):]
 
     def begin(self, lines):
-        """Gives the lines up to the first that is answered 7; how many those are."""
+        """Gives the lines up to the first that is answered 7 or 13; how many those are."""
         calls = [call_in(line) for line in lines]
         steps = iter(self.oracle.steps(self.records, [call for call in calls if given(call)]))
         for k, (line, call) in enumerate(zip(lines, calls)):
@@ -187,8 +274,9 @@ class Run:
                 self.answers.append("no 2")
                 continue
             answer, after = next(steps)
-            if no_room(call, answer, self.records):
-                self.answers.append("no 7")
+            not_its_own = ours(self.oracle, call, answer, self.records)
+            if not_its_own:
+                self.answers.append(not_its_own)
                 return k + 1
             self.answers.append(told(answer))
             self.done.append((call, self.answers[-1]))
@@ -197,8 +285,8 @@ class Run:
 
     def expected(self):
         """All that meshdump prints. The answers and records must be those of one run of the oracle from an empty mesh, without the lines that
-        are answered 2 by document 01 and 7."""
-        found = self.oracle.text(["--dump-end"], [plain(call) for call, _ in self.done])
+        are answered 2 by document 01, 7 and 13."""
+        found = self.oracle.text(["--sound", "--dump-end"], [plain(call) for call, _ in self.done])
         end = "end %d %d %d" % tuple(self.records.counts)
         if [told(answer) for answer in found[:len(self.done)]] + found[len(self.done):] != [a for _, a in self.done] + self.records.lines + [end]:
             raise RuntimeError("the oracle in one run differs from the oracle in pieces:\n" + "\n".join(plain(call) for call, _ in self.done))

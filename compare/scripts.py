@@ -2,7 +2,7 @@
 (the oracle tells), so that many edits are accepted, conflicts are common, and tables become full. The same seed makes the same script."""
 import random
 
-from expect import LONGEST_LINE, MOST_KEYS, ROWS, U32, Run, call_in
+from expect import FARTHEST, LONGEST_LINE, MOST_KEYS, ROWS, U32, Run, call_in
 
 # ---- lines that can't be read, or only just
 
@@ -12,6 +12,7 @@ JUNK = [b"", b"\r", b"\t", b" ", b"  ", b"-", b"+", b"\0", b"\xff", b"\xc3\xa9",
         b"a 0 1 0 0", b"a 0 1 0 0 0 0"]
 NOT_A_KEY = [b"-1", b"-0", b"+1", b"4294967296", b"99999999999999999999", b"1.0", b"1e2", b"0x1", b"a", b"1a", b"a1", b"-", b"", b"1\r", b"1\t", b"1\0", b"1,2", b"\xef\xbc\x91"]
 NOT_A_COORDINATE = [b"1000001", b"-1000001", b"4294967295", b"18446744073709551616", b"--1", b"-+1", b"+1", b"+", b"-", b"1-", b"1.5", b"1e3", b"0x10", b"nan", b"inf", b"", b"- 1", b"1\r", b"\t1"]
+NO_SHIFT = [b"0 0 0", b"0 0 0", b"-0 0 -0", b"00 -000 0"]
 LENGTHS = [LONGEST_LINE, LONGEST_LINE + 1, LONGEST_LINE + 2, 1023, 1024, 1025, 2048, 4095, 4096, 4097, 5000]
 
 
@@ -69,6 +70,7 @@ class Writer:
         self.rng, self.run = rng, Run(oracle)
         self.spoiling = rng.choice([0, 0, 0.03, 0.15, 0.4])
         self.lengthening = rng.choice([0, 0, 0, 0.05])
+        self.meeting = rng.choice([0, 0, 0, 0.02, 0.06, 0.2])
 
     def give(self, lines):
         """Gives the lines, some of them spoiled, made longer, or with such a line before them."""
@@ -96,8 +98,19 @@ class Writer:
             return b"%d" % self.rng.randint(-1000000, 1000000)
         return self.rng.choice([b"1000000", b"-1000000", b"-0", b"000", b"-007", b"999999"])
 
-    def point(self):
+    def point(self, spots=()):
+        """A position or an offset, apart from all others mostly, and at times one of these."""
+        if spots and self.rng.random() < self.meeting:
+            return self.rng.choice(spots)
         return b" ".join(self.coordinate() for _ in range(3))
+
+    def places(self, vertices):
+        """Where these vertices stand, as far as a line can say it."""
+        positions = [self.run.records.positions[vertex] for vertex in vertices]
+        return [b"%d %d %d" % position for position in positions if max(map(abs, position)) <= FARTHEST]
+
+    def corners_of(self, face):
+        return self.run.records.ring_vertices(face) if face in self.run.records.first else []
 
     def stranger(self, counter):
         return self.rng.choice([counter, counter, counter + 1, counter + 9, U32 - 1, U32])
@@ -158,7 +171,7 @@ class Writer:
         if (letter in "rspbx" and not records.first or letter in "ja" and not records.arcs) and rng.random() < 0.8:
             letter = "f"
         if letter == "v":
-            return b"v " + self.point()
+            return b"v " + self.point(self.places(records.vertices))
         if letter == "f":
             return self.insert(self.perimeter(rng.choice(arities)))
         if letter == "r":
@@ -176,8 +189,9 @@ class Writer:
         if letter == "j":
             return b"j %d %d %d %d" % (self.arc() + self.arc())
         if letter == "a":
-            return b"a %d %d " % self.arc(0.9) + self.point()
-        return letter.encode() + b" %d " % self.face() + self.point()
+            return b"a %d %d " % self.arc(0.9) + self.point(NO_SHIFT)
+        face = self.face()
+        return letter.encode() + b" %d " % face + self.point(NO_SHIFT if letter == "x" else self.places(self.corners_of(face)))
 
     def insert(self, keys):
         mark = self.rng.choice([0, 1, 2, 7, 99, U32])
@@ -202,10 +216,15 @@ class Writer:
     def poke_some(self):
         self.run.records.parse()
         faces = list(self.run.records.first)
-        self.give([b"p %d " % face + self.point() for face in self.rng.sample(faces, self.rng.randint(1, len(faces)))[:6]])
+        chosen = self.rng.sample(faces, self.rng.randint(min(1, len(faces)), len(faces)))[:6]
+        self.give([b"p %d " % face + self.point(self.places(self.corners_of(face))) for face in chosen])
 
     def vertices(self, n):
-        self.give([b"v " + self.point() for _ in range(n)])
+        """So many vertices; where one stands in the spot of an earlier one, that is often the one before it."""
+        points = []
+        for _ in range(n):
+            points.append(self.point(points[-1:] + points))
+        self.give([b"v " + point for point in points])
 
 
 # ---- styles

@@ -111,8 +111,10 @@ typedef struct {
 
 /* ---- Answers ------------------------------------------------------------------------------------------------------------------------ */
 
-/* The rule book's numbers. Where two refusals could be given, the order is: 1; 2 for what the caller gave; 3 to 6 as each call checks;
- * 2 for moved coordinates; 7; 3 to 6 found in mid-edit; 8. */
+/* The rule book's numbers. Where two refusals could be given, the order is: 1; 2 for what the caller gave; 3 to 6 and 13 as each call checks;
+ * 2 for moved coordinates; 7; 3 to 6 and 13 found in mid-edit; 8. 13 is found by the checks of a face insert, between 4 and 5 (an arc bridge
+ * has a 5 of its own before them): those of a face insert and of an arc bridge come before 7, those of a face that another edit puts in are
+ * in mid-edit. */
 enum {
     UL_DONE = 0,
     UL_TABLES = 1,                /* a table is unsound or over the limit, or working room is too small */
@@ -123,7 +125,9 @@ enum {
     UL_TOPOLOGY_CONFLICT = 5,     /* an arc that is needed has a face already, or leads on within the new face */
     UL_ARITY_NON_UNIFORM = 6,     /* a bridge of faces that have not as many vertices as each other */
     UL_NO_ROOM = 7,               /* free rows fewer than the edit's need, or keys used up */
-    UL_WOULD_BREAK = 8            /* the mesh would not be sound afterwards */
+    UL_WOULD_BREAK = 8,           /* the mesh would not be sound afterwards */
+    UL_SAME_PLACE = 13            /* a face that goes in has two neighbouring corners, the last and first too, whose three coordinates are equal,
+                                     so that -0.0 equals 0.0 */
 };
 
 /* Whatever a refusal's number, the tables and the counters are as they were, every bit, and all the other members of the reply are 0.
@@ -152,36 +156,38 @@ typedef struct {
 ul_reply ul_vertex_insert(UL_LENT_PARAMETERS, double x, double y, double z);
 
 /* A new face with these vertices in this order, and this mark. Arcs that are there already are used, so that panels share seams; the others
- * are made. Reply: key of the face. Refusals: 1, 2, 3, 4, 5, 7, 8. Need: one edge for each pair without an arc, one face. */
+ * are made. Reply: key of the face. Refusals: 1, 2, 3, 4, 5, 7, 8, 13. Need: one edge for each pair without an arc, one face. */
 ul_reply ul_face_insert(UL_LENT_PARAMETERS, uint32_t mark, const uint32_t *keys, size_t key_count);
 
 /* Takes a face out. Its arcs, edges and links stay. Reply: mark. Refusals: 1, 4. */
 ul_reply ul_face_remove(UL_LENT_PARAMETERS, uint32_t face);
 
 /* Cuts a face in two along a new seam from one of its vertices to another that is not its neighbour. Both new faces have new keys and mark 0.
- * Reply: source and destination, the arc from s to d. Refusals: 1, 3, 4, 5, 7, 8. Need: one edge if s and d have none, one face (two keys). */
+ * Reply: source and destination, the arc from s to d. Refusals: 1, 3, 4, 5, 7, 8, 13. Need: one edge if s and d have none, one face (two
+ * keys). */
 ul_reply ul_face_split(UL_LENT_PARAMETERS, uint32_t face, uint32_t s, uint32_t d);
 
 /* Puts a vertex at a position and in place of the face as many triangles as it had vertices, each with the face's mark. Reply: key of the
- * vertex. Refusals: 1, 2, 4, 5, 7, 8. Need at n vertices: 1 vertex, n edges, n - 1 faces (n keys). */
+ * vertex. Refusals: 1, 2, 4, 5, 7, 8, 13. Need at n vertices: 1 vertex, n edges, n - 1 faces (n keys). */
 ul_reply ul_face_poke(UL_LENT_PARAMETERS, uint32_t face, double x, double y, double z);
 
 /* Takes two faces of n vertices each out and joins their rings by n faces of four, with mark 0. Reply: only the number. Refusals: 1, 3, 4, 5,
- * 6, 7, 8. Need: n edges, n - 2 faces (n keys). */
+ * 6, 7, 8, 13. Need: n edges, n - 2 faces (n keys). */
 ul_reply ul_face_bridge(UL_LENT_PARAMETERS, uint32_t source, uint32_t destination);
 
 /* Takes a face of n vertices out and puts in its moved copy and n walls of four vertices between the two, all with mark 0. Shift: each
  * coordinate p becomes p + d, rounded once. Scale about o by a factor k: (p - o) * k + o, rounded after each operation.
- * Reply: key of the moved face. Refusals: 1, 2, 4, 5, 7, 8. Need: n vertices, 2n edges, n faces (n + 1 keys). */
+ * Reply: key of the moved face. Refusals: 1, 2, 4, 5, 7, 8, 13; a shift by nothing is 13, here and below. Need: n vertices, 2n edges, n faces
+ * (n + 1 keys). */
 ul_reply ul_face_extrude_shift(UL_LENT_PARAMETERS, uint32_t face, double dx, double dy, double dz);
 ul_reply ul_face_extrude_scale(UL_LENT_PARAMETERS, uint32_t face, double ox, double oy, double oz, double factor);
 
-/* A new face of four, a, b, c, d, between the arcs (a,b) and (c,d), with mark 0. Reply: key of the face. Refusals: 1, 3, 4, 5, 7, 8.
- * Need: as the face insert of a, b, c, d. */
+/* A new face of four, a, b, c, d, between the arcs (a,b) and (c,d), with mark 0. Reply: key of the face. Refusals: 1, 3, 4, 5, 7, 8,
+ * 13. Need: as the face insert of a, b, c, d. */
 ul_reply ul_arc_bridge(UL_LENT_PARAMETERS, uint32_t a, uint32_t b, uint32_t c, uint32_t d);
 
 /* From an arc (s,d) without a face, a moved copy of its edge and a face of four between the two, with mark 0. Reply: source and destination,
- * the copy's arc in that face; the arc the other way round has no face. Refusals: 1, 2, 4, 5, 7, 8. Need: 2 vertices, 3 edges, 1 face. */
+ * the copy's arc in that face; the arc the other way round has no face. Refusals: 1, 2, 4, 5, 7, 8, 13. Need: 2 vertices, 3 edges, 1 face. */
 ul_reply ul_arc_extrude_shift(UL_LENT_PARAMETERS, uint32_t s, uint32_t d, double dx, double dy, double dz);
 ul_reply ul_arc_extrude_scale(UL_LENT_PARAMETERS, uint32_t s, uint32_t d, double ox, double oy, double oz, double factor);
 

@@ -68,8 +68,8 @@ impl Mesh {
     /// Puts in a face of these vertices in this order, 3 to 64, with a mark. Arcs that are there already are used, so that faces share
     /// edges; the others are made.
     ///
-    /// Refused: `Argument` above 64 keys, `TopologyMalformed` below three or for a key twice, `TopologyNotFound`, `TopologyConflict`,
-    /// `NoRoom`, `WouldBreak`.
+    /// Refused: `Argument` above 64 keys, `TopologyMalformed` below three or for a key twice, `TopologyNotFound`, `SamePlace` for
+    /// neighbours in one spot, `TopologyConflict`, `NoRoom`, `WouldBreak`.
     pub fn face_insert(&mut self, mark: u32, keys: &[VertexKey]) -> Result<FaceKey, Refusal> {
         let keys: Vec<u32> = keys.iter().map(|key| key.0).collect();
         Ok(FaceKey(call!(self, face_insert(mark, &keys)).key))
@@ -85,7 +85,7 @@ impl Mesh {
     /// Cuts a face in two along a new edge between two of its vertices that are no neighbours. Both new faces have mark 0.
     ///
     /// Refused: `TopologyNotFound` for a vertex that is not on the face, `TopologyMalformed` for neighbours or one vertex twice,
-    /// `TopologyConflict`, `NoRoom`, `WouldBreak`.
+    /// `TopologyConflict`, `NoRoom`, `SamePlace` for vertices in one spot, `WouldBreak`.
     pub fn face_split(&mut self, face: FaceKey, source: VertexKey, destination: VertexKey) -> Result<Arc, Refusal> {
         let reply = call!(self, face_split(face.0, source.0, destination.0));
         Ok(Arc(VertexKey(reply.source), VertexKey(reply.destination)))
@@ -93,15 +93,16 @@ impl Mesh {
 
     /// Puts in a vertex at a position and, in place of the face, triangles from its edges to that vertex, each with the face's mark.
     ///
-    /// Refused: `Argument`, `TopologyNotFound`, `TopologyConflict`, `NoRoom`, `WouldBreak`.
+    /// Refused: `Argument`, `TopologyNotFound`, `NoRoom`, `SamePlace` for a position at a corner of the face, `TopologyConflict`,
+    /// `WouldBreak`.
     pub fn face_poke(&mut self, face: FaceKey, [x, y, z]: Position) -> Result<VertexKey, Refusal> {
         Ok(VertexKey(call!(self, face_poke(face.0, x, y, z)).key))
     }
 
     /// Takes two faces of as many vertices out and joins their rings by faces of four, with mark 0.
     ///
-    /// Refused: `TopologyNotFound`, also for a face with itself, `ArityNonUniform`, `TopologyMalformed`, `TopologyConflict`, `NoRoom`,
-    /// `WouldBreak`.
+    /// Refused: `TopologyNotFound`, also for a face with itself, `ArityNonUniform`, `NoRoom`, `TopologyMalformed`, `SamePlace` for corners
+    /// that would be joined and stand in one spot, `TopologyConflict`, `WouldBreak`.
     pub fn face_bridge(&mut self, source: FaceKey, destination: FaceKey) -> Result<(), Refusal> {
         call!(self, face_bridge(source.0, destination.0));
         Ok(())
@@ -109,8 +110,8 @@ impl Mesh {
 
     /// Takes a face out and puts in its moved copy, and walls between the two, all with mark 0. Returns the copy.
     ///
-    /// Refused: `Argument` for a number or a moved coordinate that is not finite, `TopologyNotFound`, `TopologyConflict`, `NoRoom`,
-    /// `WouldBreak`.
+    /// Refused: `Argument` for a number or a moved coordinate that is not finite, `TopologyNotFound`, `NoRoom`, `SamePlace` for a move that
+    /// leaves a corner where it was or brings neighbours together, `TopologyConflict`, `WouldBreak`.
     pub fn face_extrude(&mut self, face: FaceKey, by: Move) -> Result<FaceKey, Refusal> {
         let reply = match by {
             Move::Shift([dx, dy, dz]) => call!(self, face_extrude_shift(face.0, dx, dy, dz)),
@@ -121,7 +122,8 @@ impl Mesh {
 
     /// Puts in a face of four, with mark 0, from one arc to another: its vertices are the ends of `first`, then those of `second`.
     ///
-    /// Refused: `TopologyNotFound`, `TopologyConflict`, `TopologyMalformed` for arcs that share a vertex, `NoRoom`, `WouldBreak`.
+    /// Refused: `TopologyNotFound`, `TopologyConflict`, `TopologyMalformed` for arcs that share a vertex, `SamePlace` for neighbours in one
+    /// spot, `NoRoom`, `WouldBreak`.
     pub fn arc_bridge(&mut self, first: Arc, second: Arc) -> Result<FaceKey, Refusal> {
         Ok(FaceKey(call!(self, arc_bridge(first.0 .0, first.1 .0, second.0 .0, second.1 .0)).key))
     }
@@ -129,7 +131,8 @@ impl Mesh {
     /// From an arc without a face, puts in a moved copy of its edge, and a face of four between the two, with mark 0. Returns the copy's
     /// arc in that face; its opposite has no face, and can be extruded next.
     ///
-    /// Refused: `Argument`, `TopologyNotFound`, `TopologyConflict` for an arc with a face, `NoRoom`, `WouldBreak`.
+    /// Refused: `Argument`, `TopologyNotFound`, `TopologyConflict` for an arc with a face, `NoRoom`, `SamePlace` for a move that leaves an
+    /// end where it was or brings both together, `WouldBreak`.
     pub fn arc_extrude(&mut self, arc: Arc, by: Move) -> Result<Arc, Refusal> {
         let (s, d) = (arc.0 .0, arc.1 .0);
         let reply = match by {

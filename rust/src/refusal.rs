@@ -26,6 +26,8 @@ pub enum Refusal {
     NoRoom,
     /// 8: the mesh would not be sound afterwards.
     WouldBreak,
+    /// 13: a face that goes in has two neighbouring corners in one spot: all three coordinates equal, so that -0.0 equals 0.0.
+    SamePlace,
     /// A number that this crate has no name for, from an archive that is newer than the crate. It is never 0, nor one of those above.
     Unknown(u32),
 }
@@ -41,6 +43,7 @@ impl Refusal {
         Refusal::ArityNonUniform,
         Refusal::NoRoom,
         Refusal::WouldBreak,
+        Refusal::SamePlace,
     ];
 
     /// The number that the library answers it by, never 0.
@@ -54,6 +57,7 @@ impl Refusal {
             Refusal::ArityNonUniform => 6,
             Refusal::NoRoom => 7,
             Refusal::WouldBreak => 8,
+            Refusal::SamePlace => 13,
             Refusal::Unknown(number) => number,
         }
     }
@@ -79,6 +83,7 @@ impl fmt::Display for Refusal {
             Refusal::ArityNonUniform => "the faces differ in their number of vertices",
             Refusal::NoRoom => "not enough free rows, or no keys left",
             Refusal::WouldBreak => "the mesh would not be sound afterwards",
+            Refusal::SamePlace => "two neighbouring corners of a face stand in one spot",
             Refusal::Unknown(number) => return write!(f, "refused with {number}, a number that this crate has no name for"),
         };
         write!(f, "{self:?} ({}): {why}", self.number())
@@ -95,11 +100,13 @@ mod tests {
     #[test]
     fn every_number_but_0_is_a_refusal() {
         assert_eq!(Refusal::from_number(0), None);
-        for (refusal, number) in Refusal::ALL.iter().zip(1..) {
+        let named = [1, 2, 3, 4, 5, 6, 7, 8, 13];
+        assert_eq!(Refusal::ALL.len(), named.len());
+        for (refusal, number) in Refusal::ALL.iter().zip(named) {
             assert_eq!(refusal.number(), number);
             assert_eq!(Refusal::from_number(number), Some(*refusal));
         }
-        for number in [9, 15, 1000, u32::MAX] {
+        for number in [9, 12, 14, 15, 1000, u32::MAX] {
             assert_eq!(Refusal::from_number(number), Some(Refusal::Unknown(number)));
             assert_eq!(Refusal::Unknown(number).number(), number);
         }
@@ -112,6 +119,7 @@ mod tests {
             error.to_string()
         };
         assert_eq!(shown(7), "NoRoom (7): not enough free rows, or no keys left");
+        assert_eq!(shown(13), "SamePlace (13): two neighbouring corners of a face stand in one spot");
         assert_eq!(shown(99), "refused with 99, a number that this crate has no name for");
     }
 }

@@ -12,6 +12,7 @@ use rules::ArcRow;
 use rules::EdgeRow;
 use rules::FaceRow;
 use rules::Links;
+use rules::PositionRow;
 use rules::VertexRow;
 use tables::answers;
 ghost use mathlib.Core.Path.{_≡_};
@@ -29,6 +30,7 @@ ghost use Rattle.edits.specs.Known.{Known};
 // Each source arc with its destination arc, counted from the end: done, or the first refusal.
 fn pairs_in(
     vertices: &mut [VertexRow],
+    positions: &[PositionRow],
     arcs: &mut [ArcRow],
     edges: &mut [EdgeRow],
     faces: &mut [FaceRow],
@@ -41,10 +43,9 @@ fn pairs_in(
 ) -> Answer
     requires { ⌜ Known (now arcs) (now edges) (now faces) (now seen) (now near) around ⌝ }
     ensures { λ r. ⌜
-        ((p : List (List Float)) →
-        step (meshAfter vertices (unlent p) arcs edges faces counters) r
+        (step (meshAfter vertices positions arcs edges faces counters) r
         ≡ eachIn (λ i a. arcBridgeBy searching a (getD (listOf forth) i 0) (getD (reverse (listOf back)) i 0)) (length (listOf forth))
-        (meshBefore vertices (unlent p) arcs edges faces counters))
+        (meshBefore vertices positions arcs edges faces counters))
         ⌝ }
 {
     let n = lists::size(forth);
@@ -54,6 +55,7 @@ fn pairs_in(
         let y = pieces::item_from_end(back, i);
         let told = arc::arc_bridge(
             vertices,
+            positions,
             arcs,
             edges,
             faces,
@@ -75,6 +77,7 @@ fn pairs_in(
 // The arc bridges of all pairs, source arcs in order with destination arcs reversed. The arcs near both rings are listed once, before the first.
 fn pairs_near(
     vertices: &mut [VertexRow],
+    positions: &[PositionRow],
     arcs: &mut [ArcRow],
     edges: &mut [EdgeRow],
     faces: &mut [FaceRow],
@@ -83,10 +86,9 @@ fn pairs_near(
     back: Links,
 ) -> Answer
     ensures { λ r. ⌜
-        ((p : List (List Float)) →
-        step (meshAfter vertices (unlent p) arcs edges faces counters) r
+        (step (meshAfter vertices positions arcs edges faces counters) r
         ≡ eachIn (λ i a. arcBridgeBy searching a (getD (listOf forth) i 0) (getD (reverse (listOf back)) i 0)) (length (listOf forth))
-        (meshBefore vertices (unlent p) arcs edges faces counters))
+        (meshBefore vertices positions arcs edges faces counters))
         ⌝ }
 {
     lists::known_few(forth);
@@ -107,6 +109,7 @@ fn pairs_near(
     );
     pairs_in(
         vertices,
+        positions,
         arcs,
         edges,
         faces,
@@ -121,6 +124,7 @@ fn pairs_near(
 
 pub fn bridge_work(
     vertices: &mut [VertexRow],
+    positions: &[PositionRow],
     arcs: &mut [ArcRow],
     edges: &mut [EdgeRow],
     faces: &mut [FaceRow],
@@ -129,15 +133,23 @@ pub fn bridge_work(
     g: u32,
 ) -> Answer
     ensures { λ r. ⌜
-        ((p : List (List Float)) →
-        step (meshAfter vertices (unlent p) arcs edges faces counters) r
-        ≡ bridgeWorkBy searching (meshBefore vertices (unlent p) arcs edges faces counters) f g)
+        (step (meshAfter vertices positions arcs edges faces counters) r
+        ≡ bridgeWorkBy searching (meshBefore vertices positions arcs edges faces counters) f g)
         ⌝ }
 {
     let forth = checks::rings::ring_of(arcs, faces, f);
     let back = checks::rings::ring_of(arcs, faces, g);
     edges::face::remove_face(arcs, faces, f);
     edges::face::remove_face(arcs, faces, g);
-    let told = pairs_near(vertices, arcs, edges, faces, counters, forth, back);
+    let told = pairs_near(
+        vertices,
+        positions,
+        arcs,
+        edges,
+        faces,
+        counters,
+        forth,
+        back,
+    );
     pieces::answering(Answer::Key(0), told)
 }

@@ -1,2 +1,3 @@
 pub mod Between
 pub mod Most
+pub mod Named

@@ -7,6 +7,7 @@ use rules::Answer;
 use rules::ArcRow;
 use rules::FaceRow;
 use rules::Links;
+use rules::PositionRow;
 use rules::RING;
 use rules::Refusal;
 use tables::rows;
@@ -117,14 +118,21 @@ pub fn corners_faced(arcs: &[ArcRow], xs: Links) -> bool
 }
 
 // Those of an arc bridge, and then of the insert of its corners: xs are the arcs of their pairs.
-pub fn arc_bridge_checks_by(arcs: &[ArcRow], per: Links, xs: Links, x: u32, y: u32) -> Answer
+pub fn arc_bridge_checks_by(
+    positions: &[PositionRow],
+    arcs: &[ArcRow],
+    per: Links,
+    xs: Links,
+    x: u32,
+    y: u32,
+) -> Answer
     requires { ⌜
         ((vs : Table) (ps : List (List Float)) (es fs : Table) (ks : List ℕ) → listOf per ≡ Edit.corners (mesh vs ps (now arcs) es fs ks) x y)
         ⌝ }
     requires { ⌜ listOf xs ≡ arcsOf (now arcs) (listOf per) ⌝ }
     ensures { λ r. ⌜
-        ((vs : Table) (ps : List (List Float)) (es fs : Table) (ks : List ℕ) →
-        r ≡ Edit.arcBridgeChecks (mesh vs ps (now (arcs .entry)) es fs ks) x y)
+        ((vs es fs : Table) (ks : List ℕ) →
+        r ≡ Edit.arcBridgeChecks (mesh vs (now (positions .entry)) (now (arcs .entry)) es fs ks) x y)
         ⌝ }
 {
     if x == 0 {
@@ -136,14 +144,15 @@ pub fn arc_bridge_checks_by(arcs: &[ArcRow], per: Links, xs: Links, x: u32, y: u
     if corners_faced(arcs, xs) {
         return Answer::Refused(Refusal::TopologyConflict);
     }
-    insert::insert_checks_by(arcs, xs, per, per)
+    insert::insert_checks_by(positions, arcs, xs, per, per)
 }
 
 // Rule 8's checks of the arcs (a,b) and (c,d), given by four vertices.
-pub fn arc_bridge_checks(arcs: &[ArcRow], four: [u32; 4]) -> Answer
+pub fn arc_bridge_checks(positions: &[PositionRow], arcs: &[ArcRow], four: [u32; 4]) -> Answer
     ensures { λ r. ⌜
-        ((vs : Table) (ps : List (List Float)) (es fs : Table) (ks : List ℕ) →
-        r ≡ Edit.arcBridgeChecks (mesh vs ps (now (arcs .entry)) es fs ks) (oneOf (now (arcs .entry)) four) (otherOf (now (arcs .entry)) four))
+        ((vs es fs : Table) (ks : List ℕ) →
+        r ≡ Edit.arcBridgeChecks (mesh vs (now (positions .entry)) (now (arcs .entry)) es fs ks) (oneOf (now (arcs .entry)) four)
+        (otherOf (now (arcs .entry)) four))
         ⌝ }
 {
     let told = arcs_between(arcs, four);
@@ -155,7 +164,7 @@ pub fn arc_bridge_checks(arcs: &[ArcRow], four: [u32; 4]) -> Answer
     if y == 0 {
         return Answer::Refused(Refusal::TopologyNotFound);
     }
-    arc_bridge_checks_by(arcs, told.per, told.found, x, y)
+    arc_bridge_checks_by(positions, arcs, told.per, told.found, x, y)
 }
 
 // Those of a bridge of two faces.

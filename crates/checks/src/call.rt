@@ -92,21 +92,22 @@ fn by_keys(vertices: &[VertexRow], keys: &[u32]) -> Links
 // The checks of each edit, where a face insert has at most 64 keys, as `given` tells.
 pub fn checks_of(
     vertices: &[VertexRow],
+    positions: &[PositionRow],
     arcs: &[ArcRow],
     faces: &[FaceRow],
     edit: Edit,
     keys: &[u32],
 ) -> Answer
     ensures { λ r. ⌜
-        (((mark : ℕ) → edit ≡ FaceInsert mark → length (now (keys .entry)) ≤ 64) → (ps : List (List Float)) (es : Table) (ks : List ℕ) →
-        r ≡ Call.checks (mesh (now (vertices .entry)) ps (now (arcs .entry)) es (now (faces .entry)) ks) edit (now (keys .entry)))
+        (((mark : ℕ) → edit ≡ FaceInsert mark → length (now (keys .entry)) ≤ 64) → (es : Table) (ks : List ℕ) →
+        r ≡ Call.checks (meshBefore vertices positions arcs (unlent es) faces (unlent ks)) edit (now (keys .entry)))
         ⌝ }
 {
     match edit {
         Edit::VertexInsert(_) => Answer::Done,
         Edit::FaceInsert(_) => {
             let names = lists::from_keys(keys);
-            insert::insert_checks(arcs, names, by_keys(vertices, keys))
+            insert::insert_checks(positions, arcs, names, by_keys(vertices, keys))
         }
         Edit::FaceRemove(f) => extrude::known(rows::find_key3(faces, f)),
         Edit::FaceSplit(f, s, d) => {
@@ -121,7 +122,7 @@ pub fn checks_of(
         }
         Edit::FaceExtrude(f, _) => extrude::known(rows::find_key3(faces, f)),
         Edit::ArcBridge(a, b, c, d) => {
-            bridge::arc_bridge_checks(arcs, four_by_keys(vertices, a, b, c, d))
+            bridge::arc_bridge_checks(positions, arcs, four_by_keys(vertices, a, b, c, d))
         }
         Edit::ArcExtrude(s, d, _) => {
             extrude::arc_extrude_checks(arcs, arc_by_keys(vertices, arcs, s, d))

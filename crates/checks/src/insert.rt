@@ -1,28 +1,30 @@
 // The checks of a face insert, by the vertices of its perimeter. A vertex is named by its link, 0 where its key is unknown.
 // Document 01's rule 5, "Fewer than three keys or duplicates 3, before any lookup; unknown vertex 4; then perimeter pairs in order: an existing
-// arc with a face 5; an existing arc whose follower is absent, and whose next leads to a vertex of the perimeter, 5".
+// arc with a face 5; an existing arc whose follower is absent, and whose next leads to a vertex of the perimeter, 5". And document 02's L6: a key
+// and the one after it (the last and first too) in one spot, "13, after the unknown vertex and before both conflicts".
 
 use rules::Answer;
 use rules::ArcRow;
 use rules::Links;
+use rules::PositionRow;
 use rules::RING;
 use rules::Refusal;
 use tables::answers;
+use tables::points;
 use tables::rows;
 ghost use mathlib.Core.Path.{_≡_};
 ghost use mathlib.Core.Bool.{not, _&&_, cond};
 ghost use mathlib.Core.List.{List};
-ghost use Prim.Native.Nat.{ℕ};
-ghost use lib.ListN.{take};
+ghost use Prim.Native.Nat.{ℕ, _<_};
+ghost use lib.ListN.{length, take};
 ghost use lib.Dec.{eqb};
 ghost use lib.Ieee.{Float};
-ghost use Rattle.rules.specs.declared.Answer.the-variants.{Done, Refused};
-ghost use Rattle.rules.specs.declared.Refusal.the-variants.{TopologyMalformed, TopologyNotFound};
 ghost use Rattle.rules.specs.Table.{Table, cell, has};
 ghost use Rattle.rules.specs.Mesh.{mesh, listOf};
 ghost use Rattle.rules.specs.Insert as Insert;
 ghost use Rattle.rules.specs.Call.{pairsWithout};
 ghost use Rattle.pairs.specs.Pairs.{arcsOf};
+ghost use Rattle.checks.specs.Named.{namedSo};
 
 // Whether x is an arc, and has a face.
 pub fn faced(arcs: &[ArcRow], x: u32) -> bool
@@ -92,10 +94,40 @@ pub fn conflict_by(arcs: &[ArcRow], xs: Links, per: Links) -> bool
     false
 }
 
-// The checks before any arc is looked for. What names the vertices is a list of keys, or of links.
-fn named(names: Links, per: Links) -> Answer
+// Whether pair i of the perimeter is in one spot.
+fn in_one_spot(positions: &[PositionRow], per: Links, i: usize) -> bool
+    requires { ⌜ i < length (listOf per) ⌝ }
     ensures { λ r. ⌜
-        r ≡ cond (Insert.malformed (listOf names)) (Refused TopologyMalformed) (cond (has (listOf per) 0) (Refused TopologyNotFound) Done)
+        ((vs ar es fs : Table) (ks : List ℕ) → r ≡ Insert.inOneSpot (mesh vs (now (positions .entry)) ar es fs ks) (listOf per) i)
+        ⌝ }
+{
+    let n = lists::size(per);
+    let here = points::position_at(positions, lists::item(per, i));
+    let next = points::position_at(positions, lists::item(per, lists::place_after(n, i)));
+    points::same_place(here, next)
+}
+
+// Whether some pair is, the last and first too.
+fn has_hair(positions: &[PositionRow], per: Links) -> bool
+    ensures { λ r. ⌜
+        ((vs ar es fs : Table) (ks : List ℕ) → r ≡ Insert.hasHair (mesh vs (now (positions .entry)) ar es fs ks) (listOf per))
+        ⌝ }
+{
+    let n = lists::size(per);
+    let mut i: usize = 0;
+    while i < n {
+        if in_one_spot(positions, per, i) {
+            return true;
+        }
+        i += 1;
+    }
+    false
+}
+
+// The checks before any arc is looked for. What names the vertices is a list of keys, or of links.
+fn named(positions: &[PositionRow], names: Links, per: Links) -> Answer
+    ensures { λ r. ⌜
+        ((vs ar es fs : Table) (ks : List ℕ) → r ≡ namedSo (mesh vs (now (positions .entry)) ar es fs ks) (listOf names) (listOf per))
         ⌝ }
 {
     let malformed = lists::is_malformed(names);
@@ -106,18 +138,27 @@ fn named(names: Links, per: Links) -> Answer
     if unknown {
         return Answer::Refused(Refusal::TopologyNotFound);
     }
+    if has_hair(positions, per) {
+        return Answer::Refused(Refusal::SamePlace);
+    }
     Answer::Done
 }
 
 // All of them, in order. xs are the arcs of the perimeter's pairs.
-pub fn insert_checks_by(arcs: &[ArcRow], xs: Links, names: Links, per: Links) -> Answer
+pub fn insert_checks_by(
+    positions: &[PositionRow],
+    arcs: &[ArcRow],
+    xs: Links,
+    names: Links,
+    per: Links,
+) -> Answer
     requires { ⌜ listOf xs ≡ arcsOf (now arcs) (listOf per) ⌝ }
     ensures { λ r. ⌜
-        ((vs : Table) (ps : List (List Float)) (es fs : Table) (ks : List ℕ) →
-        r ≡ Insert.insertChecks (mesh vs ps (now (arcs .entry)) es fs ks) (listOf names) (listOf per))
+        ((vs es fs : Table) (ks : List ℕ) →
+        r ≡ Insert.insertChecks (mesh vs (now (positions .entry)) (now (arcs .entry)) es fs ks) (listOf names) (listOf per))
         ⌝ }
 {
-    let told = named(names, per);
+    let told = named(positions, names, per);
     if !answers::accepted(told) {
         return told;
     }
@@ -128,13 +169,13 @@ pub fn insert_checks_by(arcs: &[ArcRow], xs: Links, names: Links, per: Links) ->
 }
 
 // Rule 5's checks. The perimeter's arcs are looked for only where the checks before the conflicts have passed.
-pub fn insert_checks(arcs: &[ArcRow], names: Links, per: Links) -> Answer
+pub fn insert_checks(positions: &[PositionRow], arcs: &[ArcRow], names: Links, per: Links) -> Answer
     ensures { λ r. ⌜
-        ((vs : Table) (ps : List (List Float)) (es fs : Table) (ks : List ℕ) →
-        r ≡ Insert.insertChecks (mesh vs ps (now (arcs .entry)) es fs ks) (listOf names) (listOf per))
+        ((vs es fs : Table) (ks : List ℕ) →
+        r ≡ Insert.insertChecks (mesh vs (now (positions .entry)) (now (arcs .entry)) es fs ks) (listOf names) (listOf per))
         ⌝ }
 {
-    let told = named(names, per);
+    let told = named(positions, names, per);
     if !answers::accepted(told) {
         return told;
     }

@@ -78,6 +78,7 @@ fn face_remove(arcs: &mut [ArcRow], faces: &mut [FaceRow], face: u32) -> Answer
 
 fn face_split(
     vertices: &mut [VertexRow],
+    positions: &[PositionRow],
     arcs: &mut [ArcRow],
     edges: &mut [EdgeRow],
     faces: &mut [FaceRow],
@@ -87,15 +88,25 @@ fn face_split(
     d: u32,
 ) -> Answer
     ensures { λ r. ⌜
-        ((p : List (List Float)) (ks : List ℕ) →
-        step (meshAfter vertices (unlent p) arcs edges faces counters) r
-        ≡ workBy searching (meshBefore vertices (unlent p) arcs edges faces counters) (FaceSplit face s d) ks)
+        ((ks : List ℕ) →
+        step (meshAfter vertices positions arcs edges faces counters) r
+        ≡ workBy searching (meshBefore vertices positions arcs edges faces counters) (FaceSplit face s d) ks)
         ⌝ }
 {
     let f = rows::find_key3(faces, face);
     let from = rows::find_key2(vertices, s);
     let to = rows::find_key2(vertices, d);
-    split::split_work(vertices, arcs, edges, faces, counters, f, from, to)
+    split::split_work(
+        vertices,
+        positions,
+        arcs,
+        edges,
+        faces,
+        counters,
+        f,
+        from,
+        to,
+    )
 }
 
 fn face_poke(
@@ -129,6 +140,7 @@ fn face_poke(
 
 fn face_bridge(
     vertices: &mut [VertexRow],
+    positions: &[PositionRow],
     arcs: &mut [ArcRow],
     edges: &mut [EdgeRow],
     faces: &mut [FaceRow],
@@ -137,14 +149,14 @@ fn face_bridge(
     destination: u32,
 ) -> Answer
     ensures { λ r. ⌜
-        ((p : List (List Float)) (ks : List ℕ) →
-        step (meshAfter vertices (unlent p) arcs edges faces counters) r
-        ≡ workBy searching (meshBefore vertices (unlent p) arcs edges faces counters) (FaceBridge source destination) ks)
+        ((ks : List ℕ) →
+        step (meshAfter vertices positions arcs edges faces counters) r
+        ≡ workBy searching (meshBefore vertices positions arcs edges faces counters) (FaceBridge source destination) ks)
         ⌝ }
 {
     let f = rows::find_key3(faces, source);
     let g = rows::find_key3(faces, destination);
-    bridge::bridge_work(vertices, arcs, edges, faces, counters, f, g)
+    bridge::bridge_work(vertices, positions, arcs, edges, faces, counters, f, g)
 }
 
 fn face_extrude(
@@ -232,6 +244,7 @@ pub fn work(
         Edit::FaceRemove(face) => face_remove(arcs, faces, face),
         Edit::FaceSplit(face, s, d) => face_split(
             vertices,
+            positions,
             arcs,
             edges,
             faces,
@@ -252,6 +265,7 @@ pub fn work(
         ),
         Edit::FaceBridge(source, destination) => face_bridge(
             vertices,
+            positions,
             arcs,
             edges,
             faces,

@@ -18,11 +18,11 @@ pub struct Asked {
     pub number: u32,
 }
 
-// `v 0 0 0`, which gives this key.
+// `v K 0 0`, which gives the key K: no two stand in one spot.
 fn vertex(key: u32) -> Asked {
     Asked {
         letter: b'v',
-        first: 0,
+        first: key,
         from: 0,
         count: 2,
         way: Way::Same,
@@ -57,14 +57,14 @@ fn face_down(from: u32, count: u32, key: u32) -> Asked {
     }
 }
 
-// `p F 0 0 0`.
+// `p F` and F, F + 1, F + 2: no two in one spot, nor at a vertex of those above.
 fn poke(face: u32, accepted: bool, number: u32) -> Asked {
     Asked {
         letter: b'p',
         first: face,
-        from: 0,
+        from: face,
         count: 3,
-        way: Way::Same,
+        way: Way::Up,
         accepted,
         number,
     }

@@ -72,6 +72,7 @@ pub fn arc_bridge_work(
 // Arc bridge with its checks, as bridge and arc extrude use it in mid-edit.
 pub fn arc_bridge(
     vertices: &mut [VertexRow],
+    positions: &[PositionRow],
     arcs: &mut [ArcRow],
     edges: &mut [EdgeRow],
     faces: &mut [FaceRow],
@@ -84,9 +85,8 @@ pub fn arc_bridge(
 ) -> Answer
     requires { ⌜ Known (now arcs) (now edges) (now faces) (now seen) (now near) around ⌝ }
     ensures { λ r. ⌜
-        ((p : List (List Float)) →
-        step (meshAfter vertices (unlent p) arcs edges faces counters) r
-        ≡ arcBridgeBy searching (meshBefore vertices (unlent p) arcs edges faces counters) x y)
+        (step (meshAfter vertices positions arcs edges faces counters) r
+        ≡ arcBridgeBy searching (meshBefore vertices positions arcs edges faces counters) x y)
         ⌝ }
 {
     let four = checks::bridge::corners_of(arcs, x, y);
@@ -94,7 +94,7 @@ pub fn arc_bridge(
     lists::known_few(per);
     let by = around.by;
     let found = pairs::near::perimeter_arcs_near(arcs, per, seen, near, by);
-    let check = checks::bridge::arc_bridge_checks_by(arcs, per, found, x, y);
+    let check = checks::bridge::arc_bridge_checks_by(positions, arcs, per, found, x, y);
     if !answers::accepted(check) {
         return check;
     }
@@ -117,6 +117,7 @@ pub fn arc_bridge(
 // The edge (c,d), then arc bridge of x = (a,b) and (c,d), by one list of the arcs near these four.
 fn joined(
     vertices: &mut [VertexRow],
+    positions: &[PositionRow],
     arcs: &mut [ArcRow],
     edges: &mut [EdgeRow],
     faces: &mut [FaceRow],
@@ -128,9 +129,8 @@ fn joined(
     d: u32,
 ) -> Answer
     ensures { λ r. ⌜
-        ((p : List (List Float)) →
-        step (meshAfter vertices (unlent p) arcs edges faces counters) r
-        ≡ joinedBy searching (meshBefore vertices (unlent p) arcs edges faces counters) x c d)
+        (step (meshAfter vertices positions arcs edges faces counters) r
+        ≡ joinedBy searching (meshBefore vertices positions arcs edges faces counters) x c d)
         ⌝ }
 {
     let mut seen = [false; MARKS];
@@ -141,6 +141,7 @@ fn joined(
     let y = near::edge_near(vertices, arcs, edges, counters, &seen, &links, around, c, d);
     arc_bridge(
         vertices,
+        positions,
         arcs,
         edges,
         faces,
@@ -179,6 +180,18 @@ pub fn arc_extrude_work(
     let other = vertices::vertex_at(vertices, positions, a);
     let beside = points::moved(other.position, by);
     let d = edges::vertex::new_vertex(vertices, positions, counters, 0, beside);
-    let told = joined(vertices, arcs, edges, faces, counters, x, a, b, c, d);
+    let told = joined(
+        vertices,
+        positions,
+        arcs,
+        edges,
+        faces,
+        counters,
+        x,
+        a,
+        b,
+        c,
+        d,
+    );
     pieces::answering(Answer::Arc(first, second), told)
 }

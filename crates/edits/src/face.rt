@@ -9,6 +9,7 @@ use rules::ArcRow;
 use rules::EdgeRow;
 use rules::FaceRow;
 use rules::Links;
+use rules::PositionRow;
 use rules::VertexRow;
 use tables::answers;
 ghost use mathlib.Core.Path.{_≡_};
@@ -22,6 +23,7 @@ ghost use Rattle.edits.specs.Known.{Known};
 
 pub fn insert_face(
     vertices: &mut [VertexRow],
+    positions: &[PositionRow],
     arcs: &mut [ArcRow],
     edges: &mut [EdgeRow],
     faces: &mut [FaceRow],
@@ -34,15 +36,14 @@ pub fn insert_face(
 ) -> Answer
     requires { ⌜ Known (now arcs) (now edges) (now faces) (now seen) (now near) around ⌝ }
     ensures { λ r. ⌜
-        ((p : List (List Float)) →
-        step (meshAfter vertices (unlent p) arcs edges faces counters) r
-        ≡ insertFaceBy searching (meshBefore vertices (unlent p) arcs edges faces counters) (listOf per) mark)
+        (step (meshAfter vertices positions arcs edges faces counters) r
+        ≡ insertFaceBy searching (meshBefore vertices positions arcs edges faces counters) (listOf per) mark)
         ⌝ }
 {
     lists::known_few(per);
     let by = around.by;
     let found = pairs::near::perimeter_arcs_near(arcs, per, seen, near, by);
-    let check = checks::insert::insert_checks_by(arcs, found, per, per);
+    let check = checks::insert::insert_checks_by(positions, arcs, found, per, per);
     if !answers::accepted(check) {
         return check;
     }

@@ -82,6 +82,7 @@ fn wall_at(vs: Links, ds: Links, i: usize) -> Links
 // The walls, ring pair by ring pair: done, or the first refusal.
 fn walls_in(
     vertices: &mut [VertexRow],
+    positions: &[PositionRow],
     arcs: &mut [ArcRow],
     edges: &mut [EdgeRow],
     faces: &mut [FaceRow],
@@ -94,10 +95,9 @@ fn walls_in(
 ) -> Answer
     requires { ⌜ Known (now arcs) (now edges) (now faces) (now seen) (now near) around ⌝ }
     ensures { λ r. ⌜
-        ((p : List (List Float)) →
-        step (meshAfter vertices (unlent p) arcs edges faces counters) r
+        (step (meshAfter vertices positions arcs edges faces counters) r
         ≡ eachIn (λ i a. insertFaceBy searching a (wall (listOf vs) (listOf ds) i) 0) (length (listOf vs))
-        (meshBefore vertices (unlent p) arcs edges faces counters))
+        (meshBefore vertices positions arcs edges faces counters))
         ⌝ }
 {
     let n = lists::size(vs);
@@ -105,6 +105,7 @@ fn walls_in(
     while i < n {
         let told = face::insert_face(
             vertices,
+            positions,
             arcs,
             edges,
             faces,
@@ -126,6 +127,7 @@ fn walls_in(
 // The top face, then the walls, with one list of the arcs near the ring and its copies: done, or the first refusal.
 fn top_and_walls(
     vertices: &mut [VertexRow],
+    positions: &[PositionRow],
     arcs: &mut [ArcRow],
     edges: &mut [EdgeRow],
     faces: &mut [FaceRow],
@@ -134,11 +136,10 @@ fn top_and_walls(
     ds: Links,
 ) -> Answer
     ensures { λ r. ⌜
-        ((p : List (List Float)) →
-        step (meshAfter vertices (unlent p) arcs edges faces counters) r
+        (step (meshAfter vertices positions arcs edges faces counters) r
         ≡ answering Done
         (upTo (λ i s. andThen s (λ a. insertFaceBy searching a (wall (listOf vs) (listOf ds) i) 0)) (length (listOf vs))
-        (insertFaceBy searching (meshBefore vertices (unlent p) arcs edges faces counters) (listOf ds) 0)))
+        (insertFaceBy searching (meshBefore vertices positions arcs edges faces counters) (listOf ds) 0)))
         ⌝ }
 {
     lists::known_few(vs);
@@ -148,6 +149,7 @@ fn top_and_walls(
     let around = near::near_edit(&mut seen, &mut links, arcs, edges, faces, vs, ds, 2 * n);
     let top = face::insert_face(
         vertices,
+        positions,
         arcs,
         edges,
         faces,
@@ -163,6 +165,7 @@ fn top_and_walls(
     }
     walls_in(
         vertices,
+        positions,
         arcs,
         edges,
         faces,
@@ -195,6 +198,6 @@ pub fn extrude_work(
     let key = counters[2];
     edges::face::remove_face(arcs, faces, f);
     let ds = copies_in(vertices, positions, counters, by, vs);
-    let told = top_and_walls(vertices, arcs, edges, faces, counters, vs, ds);
+    let told = top_and_walls(vertices, positions, arcs, edges, faces, counters, vs, ds);
     pieces::answering(Answer::Key(key), told)
 }

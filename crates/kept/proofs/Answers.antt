@@ -8,7 +8,7 @@ use mathlib.Core.Logic.{_↔_, _⊎_, inl, inr}
 use lib.Dec.{T, eqb}
 use Rattle.rules.specs.declared.Edit.{Edit}
 use Rattle.rules.specs.declared.Refusal.{Refusal}
-use Rattle.rules.specs.declared.Refusal.the-variants.{Tables, Argument, TopologyMalformed, TopologyNotFound, TopologyConflict, ArityNonUniform, NoRoom, WouldBreak}
+use Rattle.rules.specs.declared.Refusal.the-variants.{Tables, Argument, TopologyMalformed, TopologyNotFound, TopologyConflict, ArityNonUniform, NoRoom, WouldBreak, SamePlace}
 use Rattle.rules.specs.declared.Answer.{Answer}
 use Rattle.rules.specs.declared.Answer.the-variants.{Key, Arc, Mark, Arity, Done, Refused}
 use Rattle.rules.specs.Mesh.{Mesh, Room}
@@ -18,7 +18,7 @@ use Rattle.rules.specs.Call.{Outcome, outcome, ready, zeroed, given, checks, mo
 use Rattle.rules.proofs.Promises.{refused-number, accepted-zero}
 use Rattle.proved.specs.Demand.{Made}
 use Rattle.proved.proofs.Rows.{T-true, true-T, T-false}
-use Rattle.kept.specs.Exactly.{answer, PublicAnswers, AtChecks, AtMoves, AtNeed, AtWork, AtResult, NotFit, NotFinite, NeedNotMet, ResultBreaks, ResultStands, ByRust, by-checks, in-mid-edit, InMidEdit, three, four, five, OfChecks, as-in-mid-edit, six, Uneven, GivenWhen}
+use Rattle.kept.specs.Exactly.{answer, PublicAnswers, AtChecks, AtMoves, AtNeed, AtWork, AtResult, NotFit, NotFinite, NeedNotMet, ResultBreaks, ResultStands, ByRust, by-checks, in-mid-edit, InMidEdit, three, four, five, thirteen, OfChecks, as-in-mid-edit, six, Uneven, GivenWhen}
 use Rattle.kept.proofs.Refusals.{Says, refusal-says, refusals-of-checks, refusals-of-work}
 
 -- ---- a refusal and its number
@@ -28,7 +28,7 @@ refusalOf n =
     cond (eqb n 1) Tables
     (cond (eqb n 2) Argument
     (cond (eqb n 3) TopologyMalformed
-    (cond (eqb n 4) TopologyNotFound (cond (eqb n 5) TopologyConflict (cond (eqb n 6) ArityNonUniform (cond (eqb n 7) NoRoom WouldBreak))))))
+    (cond (eqb n 4) TopologyNotFound (cond (eqb n 5) TopologyConflict (cond (eqb n 6) ArityNonUniform (cond (eqb n 7) NoRoom (cond (eqb n 8) WouldBreak SamePlace)))))))
 
 refusal-back : (r : Refusal) → refusalOf (numberOf r) ≡ r
 unfolding numberOf refusalOf
@@ -40,6 +40,7 @@ refusal-back TopologyConflict = refl
 refusal-back ArityNonUniform = refl
 refusal-back NoRoom = refl
 refusal-back WouldBreak = refl
+refusal-back SamePlace = refl
 
 -- an answer with a refusal's number is that refusal
 answer-of : (a : Answer) (r : Refusal) → told a .number ≡ numberOf r → a ≡ Refused r
@@ -126,6 +127,7 @@ module _ (m : Mesh) (c : Made) where
   by-rust r three b = b
   by-rust r four b = b
   by-rust r five b = b
+  by-rust r thirteen b = b
 
   of-checks : (r : Refusal) → OfChecks e r → AtChecks m c → checks m e keys ≡ Refused r → GivenWhen m c r
   unfolding GivenWhen
@@ -241,6 +243,7 @@ module _ (m : Mesh) (c : Made) where
   refused-so NoRoom h = answer-decided (stops m NoRoom) (is-ready (h .at-need)) (need-comes (h .at-need) ∙ stopped (roomFor m (need m e keys)) (stops m NoRoom) (worked w) (h .not-met))
   refused-so WouldBreak h =
       answer-decided (stops (w .tables) WouldBreak) (is-ready (h .at-result .at-work .at-need)) (result-comes (h .at-result) ∙ ap (λ (b : Bool). cond b w (stops (w .tables) WouldBreak)) (T-false (sound (w .tables)) (h .not-sound)))
+  refused-so SamePlace h = rust-refuses SamePlace h
 
   -- ---- where it is accepted, it answers as the edit's work does and leaves what the work made
 
@@ -296,6 +299,11 @@ module _ (m : Mesh) (c : Made) where
   pub five-exactly : (told (answer m c) .number ≡ 5) ↔ ByRust m c TopologyConflict
   unfolding numberOf GivenWhen
   five-exactly = exactly TopologyConflict
+
+  -- 13 exactly when these checks give it, or in mid-edit
+  pub thirteen-exactly : (told (answer m c) .number ≡ 13) ↔ ByRust m c SamePlace
+  unfolding numberOf GivenWhen
+  thirteen-exactly = exactly SamePlace
 
   pub six-exactly : (told (answer m c) .number ≡ 6) ↔ Uneven m c
   unfolding numberOf GivenWhen

@@ -266,4 +266,4 @@ module _ (m : Mesh) (s : SoundFacts m) (three : ThreeCounters m) (x : ℕ) (u : 
       (along-checked m₃ (arcBridgeChecks m₃ x y) (arcBridgeWork m₃ x y) (arcBridgeWorkBy ruled m₃ x y) (got .base, start-local)
       (λ h.
       let q = bridge-passed m₃ x y h in
-      along-so (put-along q ruled ruled-like) (λ r z. put-since start-since (omega (arith, t₃ .face-keys)) (q .insert-passed .no-conflict) z) (λ r z. put-left (but-rings m s) start-local z on-corners)))
+      along-so (put-along q ruled ruled-like) (λ r z. put-since start-since (omega (arith, t₃ .face-keys)) (q .insert-passed .no-hair) (q .insert-passed .no-conflict) z) (λ r z. put-left (but-rings m s) start-local z on-corners)))

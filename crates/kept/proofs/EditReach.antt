@@ -49,7 +49,7 @@ edit-reach m (FaceInsert mark) keys k t g c f r =
     let per = byKeys m keys in
     let q = passed m keys per c in
     reach m (FaceInsert mark) keys _
-    (insert-reaching m (but-rings m (facts m t)) per (keys-perimeter m keys (leb→le (length keys) ringLimit g) q) k (met m (insertNeed m per) r) (q .no-conflict) mark)
+    (insert-reaching m (but-rings m (facts m t)) per (keys-perimeter m keys (leb→le (length keys) ringLimit g) q) k (met m (insertNeed m per) r) (q .no-hair) (q .no-conflict) mark)
 edit-reach m (FaceRemove f′) keys k t g c f r =
     let s = facts m t in
     let face = findFace m f′ in
@@ -84,7 +84,7 @@ edit-reach m (ArcBridge a b c′ d) keys k t g c f r =
     let e = found-corners m (findVertex m a) (findVertex m b) (findVertex m c′) (findVertex m d) x y h i in
     reach m (ArcBridge a b c′ d) keys _
     (reaching-by e
-    (insert-reaching m s (corners m x y) (corners-perimeter m s x y (h .exists) (i .exists) (q .insert-passed)) k (met m (insertNeed m (corners m x y)) r) (q .insert-passed .no-conflict) 0))
+    (insert-reaching m s (corners m x y) (corners-perimeter m s x y (h .exists) (i .exists) (q .insert-passed)) k (met m (insertNeed m (corners m x y)) r) (q .insert-passed .no-hair) (q .insert-passed .no-conflict) 0))
 edit-reach m (ArcExtrude a b move) keys k t g c f r =
     let x = arcByKeys m a b in
     let h = found-arc m a b (arc-known m x c) in

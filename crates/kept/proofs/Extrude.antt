@@ -303,7 +303,7 @@ module _ (m : Mesh) (s : SoundFacts m) (three : ThreeCounters m) (f : ℕ) (u : 
         along-checked a (insertChecks a ds ds) (insertWork a ds 0) (insertWorkBy by a ds 0) (inl refl)
         (λ h. let q = passed a ds ds h in
         along-insert a (but-rings a (copied .sound)) ds (top-perimeter q) counters-a top-need by like 0
-        (λ r p. (r, p, put-since (copied .since) (omega (arith, copied .tally .face-keys)) (q .no-conflict) p, climbed-none (ladder r p)))
+        (λ r p. (r, p, put-since (copied .since) (omega (arith, copied .tally .face-keys)) (q .no-hair) (q .no-conflict) p, climbed-none (ladder r p)))
         (λ b z. inr (z .0, z .1, (0, zero-le, z .3))))
 
     walls-along : Along (Walled n) Halted (extrudeWork m f move) (answering (Key (nextKey m faceKind)) (upTo (λ i z. andThen z (λ b. insertFaceBy by b (wall vs ds i) 0)) n (insertFaceBy by a ds 0)))

@@ -11,18 +11,18 @@ use lib.Dec.{T, ltb, leb, leb→le}
 use borrow.Author.Tests.{lt-ltb, le-leb, lt-leb, ltb-true, leb-false}
 use Rattle.rules.specs.declared.Edit.the-variants.{FaceInsert}
 use Rattle.rules.specs.declared.Refusal.{Refusal}
-use Rattle.rules.specs.declared.Refusal.the-variants.{TopologyMalformed, TopologyNotFound, TopologyConflict}
+use Rattle.rules.specs.declared.Refusal.the-variants.{TopologyMalformed, TopologyNotFound, TopologyConflict, SamePlace}
 use Rattle.rules.specs.declared.Answer.{Answer}
 use Rattle.rules.specs.declared.Answer.the-variants.{Done, Refused}
 use Rattle.rules.specs.Mesh.{Mesh, Room, ringLimit}
 use Rattle.rules.specs.Table.{has, distinct}
 use Rattle.rules.specs.Step.{told, accepted, numberOf}
-use Rattle.rules.specs.Insert.{malformed, conflict, insertChecks, insertWork}
+use Rattle.rules.specs.Insert.{malformed, hasHair, conflict, insertChecks, insertWork}
 use Rattle.rules.specs.Call.{ready, given, checks, movesFinite, work, byKeys, faceInsert}
 use Rattle.proved.specs.Demand.{Made, made}
 use Rattle.proved.proofs.Rows.{T-true, T-false, true-T}
-use Rattle.kept.specs.Exactly.{NotFit, NotFinite, ByRust, by-checks, in-mid-edit, FewOrTwice, KeysMalformed}
-use Rattle.kept.proofs.Answers.{two-exactly, three-exactly, not-accepted}
+use Rattle.kept.specs.Exactly.{NotFit, NotFinite, ByRust, by-checks, in-mid-edit, FewOrTwice, KeysMalformed, KeysInOneSpot}
+use Rattle.kept.proofs.Answers.{two-exactly, three-exactly, thirteen-exactly, not-accepted}
 
 -- ---- malformed keys
 
@@ -51,13 +51,30 @@ same-number q r e = ap (λ (a : Answer). told a .number) e
 module _ (m : Mesh) (keys per : List ℕ) where
   refused-malformed : insertChecks m keys per ≡ Refused TopologyMalformed → malformed keys ≡ true
   unfolding insertChecks numberOf accepted
-  refused-malformed h = go (malformed keys) refl (has per 0) (conflict m per) h
+  refused-malformed h = go (malformed keys) refl (has per 0) (hasHair m per) (conflict m per) h
     where
-      go : (a : Bool) → malformed keys ≡ a → (b c : Bool) → cond a (Refused TopologyMalformed) (cond b (Refused TopologyNotFound) (cond c (Refused TopologyConflict) Done)) ≡ Refused TopologyMalformed → malformed keys ≡ true
-      go true p b c z = p
-      go false p true c z = let n = same-number TopologyNotFound TopologyMalformed z in let f : ⊥ = omega arith in absurd f
-      go false p false true z = let n = same-number TopologyConflict TopologyMalformed z in let f : ⊥ = omega arith in absurd f
-      go false p false false z = absurd (not-accepted Done TopologyMalformed z)
+      go : (a : Bool) → malformed keys ≡ a → (b c d : Bool) → cond a (Refused TopologyMalformed) (cond b (Refused TopologyNotFound) (cond c (Refused SamePlace) (cond d (Refused TopologyConflict) Done))) ≡ Refused TopologyMalformed → malformed keys ≡ true
+      go true p b c d z = p
+      go false p true c d z = let n = same-number TopologyNotFound TopologyMalformed z in let f : ⊥ = omega arith in absurd f
+      go false p false true d z = let n = same-number SamePlace TopologyMalformed z in let f : ⊥ = omega arith in absurd f
+      go false p false false true z = let n = same-number TopologyConflict TopologyMalformed z in let f : ⊥ = omega arith in absurd f
+      go false p false false false z = absurd (not-accepted Done TopologyMalformed z)
+
+  -- and with 13 behind these, and before both conflicts
+  refused-in-one-spot : insertChecks m keys per ≡ Refused SamePlace → T (not (malformed keys)) × T (not (has per 0)) × T (hasHair m per)
+  unfolding insertChecks numberOf accepted
+  refused-in-one-spot h = go (malformed keys) refl (has per 0) refl (hasHair m per) refl (conflict m per) h
+    where
+      go : (a : Bool) → malformed keys ≡ a → (b : Bool) → has per 0 ≡ b → (c : Bool) → hasHair m per ≡ c → (d : Bool) → cond a (Refused TopologyMalformed) (cond b (Refused TopologyNotFound) (cond c (Refused SamePlace) (cond d (Refused TopologyConflict) Done))) ≡ Refused SamePlace → T (not (malformed keys)) × T (not (has per 0)) × T (hasHair m per)
+      go true p b q c r d z = let n = same-number TopologyMalformed SamePlace z in let f : ⊥ = omega arith in absurd f
+      go false p true q c r d z = let n = same-number TopologyNotFound SamePlace z in let f : ⊥ = omega arith in absurd f
+      go false p false q true r d z = (rw p tt, rw q tt, rw r tt)
+      go false p false q false r true z = let n = same-number TopologyConflict SamePlace z in let f : ⊥ = omega arith in absurd f
+      go false p false q false r false z = absurd (not-accepted Done SamePlace z)
+
+  in-one-spot-refused : T (not (malformed keys)) → T (not (has per 0)) → T (hasHair m per) → insertChecks m keys per ≡ Refused SamePlace
+  unfolding insertChecks
+  in-one-spot-refused a b c = rw (T-false (malformed keys) a, T-false (has per 0) b, T-true (hasHair m per) c)
 
   malformed-refused : malformed keys ≡ true → insertChecks m keys per ≡ Refused TopologyMalformed
   unfolding insertChecks
@@ -82,6 +99,21 @@ module _ (m : Mesh) (one two : Room) (keys : List ℕ) (mark : ℕ) where
       back : KeysMalformed m one two keys → ByRust m insert TopologyMalformed
       back h =
           by-checks (record { is-ready = h .is-ready; fit = true-T (le-leb (length keys) ringLimit (h .at-most-64)) }) (malformed-refused m keys (byKeys m keys) (so-malformed keys (h .few-or-twice)))
+
+  -- 13 exactly when it is ready, there are at most 64 keys, they are well formed and known, and two neighbours stand in one spot
+  pub insert-thirteen-exactly : (told (faceInsert m one two keys mark .answer) .number ≡ 13) ↔ KeysInOneSpot m one two keys
+  unfolding faceInsert checks given work insertWork accepted
+  insert-thirteen-exactly = (λ n. forth (thirteen-exactly m insert .0 n), λ h. thirteen-exactly m insert .1 (back h))
+    where
+      forth : ByRust m insert SamePlace → KeysInOneSpot m one two keys
+      forth (by-checks at z) =
+          let w = refused-in-one-spot m keys (byKeys m keys) z in
+          record { is-ready = at .is-ready; at-most-64 = leb→le (length keys) ringLimit (at .fit); well-formed = w .0; all-known = w .1; one-spot = w .2 }
+      forth (in-mid-edit at z) = absurd (not-accepted (work m (FaceInsert mark) keys .answer) SamePlace z)
+
+      back : KeysInOneSpot m one two keys → ByRust m insert SamePlace
+      back h =
+          by-checks (record { is-ready = h .is-ready; fit = true-T (le-leb (length keys) ringLimit (h .at-most-64)) }) (in-one-spot-refused m keys (byKeys m keys) (h .well-formed) (h .all-known) (h .one-spot))
 
   -- fewer than three keys are answered with 3 exactly when the call is ready, whatever they name and whatever the mesh
   pub few-keys-three : length keys < 3 → (told (faceInsert m one two keys mark .answer) .number ≡ 3) ↔ T (ready m one two)

@@ -1,7 +1,10 @@
 -- Edits that keep every arc with its ends and every vertex, one after another. And an arc is there both ways.
 use Prim.Native.Nat.{ℕ}
 use native.Mathlib.Omega.{arith}
-use mathlib.Core.Path.{_≡_, refl, _∙_}
+use mathlib.Core.Path.{_≡_, refl, ap, _∙_}
+use mathlib.Core.List.{List}
+use lib.Ieee.{Float}
+use Rattle.rules.specs.Point.{positionAt}
 use Rattle.rules.specs.Mesh.{Mesh, findArc, opposite}
 use Rattle.kept.specs.Frame.{AllButRings, MadeEdge}
 use Rattle.kept.specs.Reaches.{KeepsEnds}
@@ -16,16 +19,17 @@ keeps-onto p q =
       sources = λ x u. q .sources x (p .arcs x u) ∙ p .sources x u;
       dests = λ x u. q .dests x (p .arcs x u) ∙ p .dests x u;
       vertices = λ v u. q .vertices v (p .vertices v u);
+      places = λ v u. q .places v (p .vertices v u) ∙ p .places v u;
       arc-rows = q .arc-rows ∙ p .arc-rows;
       counter-rows = q .counter-rows ∙ p .counter-rows;
     }
 
 pub keeps-none : (m : Mesh) → KeepsEnds m m
-keeps-none m = record { arcs = λ x u. u; sources = λ x u. refl; dests = λ x u. refl; vertices = λ v u. u; arc-rows = refl; counter-rows = refl }
+keeps-none m = record { arcs = λ x u. u; sources = λ x u. refl; dests = λ x u. refl; vertices = λ v u. u; places = λ v u. refl; arc-rows = refl; counter-rows = refl }
 
 pub keeps-edge : {m n : Mesh} {a b x y e : ℕ} → MadeEdge m n a b x y e → KeepsEnds m n
 keeps-edge w =
-    record { arcs = made-old-arc w; sources = λ x u. made-old-cell w x 0 u; dests = λ x u. made-old-cell w x 1 u; vertices = made-vertex w; arc-rows = w .arc-rows; counter-rows = w .counter-rows }
+    record { arcs = made-old-arc w; sources = λ x u. made-old-cell w x 0 u; dests = λ x u. made-old-cell w x 1 u; vertices = made-vertex w; places = λ v u. ap (λ (t : List (List Float)). positionAt t v) (w .positions-stay); arc-rows = w .arc-rows; counter-rows = w .counter-rows }
 
 -- an arc between two vertices is one still
 pub keeps-between : {m n : Mesh} {a b x : ℕ} → KeepsEnds m n → Between (m .arcs) a b x → Between (n .arcs) a b x

@@ -187,7 +187,7 @@ module _ {m : Mesh} (ladder : Ladder m) where
             tally = tally-onto (w .tally) (p .tally) (omega arith) refl (omega arith) (omega arith);
             spared = λ g u. spared-onto (w .spared g u) (p .spares g (subst (λ (z : ℕ). T (not (eqb z 0))) (sym (w .spared g u .record-stays 0)) u) (not-on a (per k) (q .no-conflict) g (λ z. let b = in-table (m .faces) g u in omega arith)));
             local = local-onto (ladder .base) (w .local) (p .local) (λ v u h. h) (λ v u h. (k, l, h));
-            since = put-since (w .since) (omega (arith, w .tally .face-keys)) (q .no-conflict) p;
+            since = put-since (w .since) (omega (arith, w .tally .face-keys)) (q .no-hair) (q .no-conflict) p;
           }
         where
           rung : (i : ℕ) → i ≤ suc k → i < n → Dec (i ≡ k) → Dec (i ≡ suc k) → Rung r i

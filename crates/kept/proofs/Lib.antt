@@ -59,3 +59,4 @@ pub mod Witness
 pub mod RecordsStay
 pub mod Unreached
 pub mod InTurn
+pub mod Hair

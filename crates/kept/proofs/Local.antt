@@ -7,13 +7,15 @@ use mathlib.Core.Bool.{Bool, true, false, not}
 use mathlib.Core.List.{List, [], _∷_, _++_}
 use mathlib.Core.Logic.{_⊎_, inl, inr}
 use lib.Dec.{T, eqb}
+use lib.ListN.{length}
+use Rattle.kept.proofs.Passed.{none-of}
 use Rattle.rules.specs.declared.Position.{Position}
 use Rattle.rules.specs.declared.Edit.{Edit}
 use Rattle.rules.specs.Table.{Table, cell, there, has}
 use Rattle.rules.specs.Mesh.{Mesh, source, dest, next, previous, edge, faceKind, nextKey}
 use Rattle.rules.specs.Link.{ring, ringVertices, newVertex}
 use Rattle.rules.specs.Step.{Step}
-use Rattle.rules.specs.Insert.{conflict, insertWork}
+use Rattle.rules.specs.Insert.{conflict, insertWork, inOneSpot, hasHair}
 use Rattle.rules.specs.Edit.{remove}
 use Rattle.rules.specs.Call.{work, insertNeed}
 use Rattle.rules.proofs.Sums.{or-l, or-r, or-cases, has-map}
@@ -23,7 +25,7 @@ use Rattle.proved.proofs.Rows.{true-T, differ, in-table}
 use Rattle.proved.proofs.Around.{place-has}
 use Rattle.kept.specs.Frame.{AllButRings, ThreeCounters, Met, RoomForVertex, RoomForEdge, MadeEdge}
 use Rattle.kept.specs.Perimeter.{Perimeter}
-use Rattle.kept.specs.Reaches.{KeepsEnds, Spared}
+use Rattle.kept.specs.Reaches.{KeepsEnds, Spared, Apart}
 use Rattle.makers.specs.Makers.{ruled, insertWorkBy}
 use Rattle.kept.specs.Local.{among, Local, GainsNothing, Came, FacesSince, Reach}
 use Rattle.kept.proofs.Rings.{previous-holds}
@@ -192,18 +194,26 @@ gains-onto {m} {a} {n} {g} p q =
 pub since-none : (m : Mesh) → FacesSince m m
 since-none m g h = inl (h, spared-none m g)
 
+-- the arcs of a new face have their ends apart, where no pair of its perimeter is in one spot
+put-apart : {a r : Mesh} {per : List ℕ} → T (not (hasHair a per)) → (p : Put a r per) → (x : ℕ) → Holds r (p .new) x → Apart r x
+unfolding hasHair inOneSpot
+put-apart {a} {r} {per} hair p x h =
+    let w = p .new-arcs x h in
+    let e = p .base .ends-exist x (h .exists) in
+    record { from-vertex = e .0; to-vertex = e .1; two-spots = rw (w .2, w .3, p .positions-stay) (none-of (inOneSpot a per) (length per) hair (w .0) (w .1)) }
+
 -- a face put in: it has come, those that have come before it gain nothing, and the others are spared
-pub since-put : {m a r : Mesh} {per : List ℕ} → FacesSince m a → nextKey m faceKind ≤ nextKey a faceKind → Put a r per → ((g : ℕ) → IsFace m g → IsFace a g → Spared a r g) → FacesSince m r
-since-put {m} {a} {r} since up p spares g h = go (p .face-cases g h)
+pub since-put : {m a r : Mesh} {per : List ℕ} → FacesSince m a → nextKey m faceKind ≤ nextKey a faceKind → T (not (hasHair a per)) → Put a r per → ((g : ℕ) → IsFace m g → IsFace a g → Spared a r g) → FacesSince m r
+since-put {m} {a} {r} {per} since up hair p spares g h = go (p .face-cases g h)
   where
     old : IsFace a g → (IsFace m g × Spared m a g) ⊎ Came m a g → (IsFace m g × Spared m r g) ⊎ Came m r g
     old u (inl w) = inl (w .0, spared-onto (w .1) (spares g (w .0) u))
     old u (inr w) =
         let e = p .gains g u in
-        inr (record { counted = rw (e .record-stays 0) (w .counted); mid = w .mid; ring = w .ring; keeps = keeps-onto (w .keeps) (p .keeps); gains = gains-onto (w .gains) e })
+        inr (record { counted = rw (e .record-stays 0) (w .counted); mid = w .mid; ring = w .ring; apart = w .apart; keeps = keeps-onto (w .keeps) (p .keeps); gains = gains-onto (w .gains) e })
 
     go : (g ≡ p .new) ⊎ IsFace a g → (IsFace m g × Spared m r g) ⊎ Came m r g
-    go (inl e) = inr (record { counted = rw (e, p .new-key) up; mid = r; ring = subst (RingFacts r) (sym e) (p .new-ring); keeps = keeps-none r; gains = gains-none r g })
+    go (inl e) = inr (record { counted = rw (e, p .new-key) up; mid = r; ring = subst (RingFacts r) (sym e) (p .new-ring); apart = λ x q. put-apart hair p x (subst (λ (z : ℕ). Holds r z x) e q); keeps = keeps-none r; gains = gains-none r g })
     go (inr u) = old u (since g u)
 
 -- one part after another
@@ -212,11 +222,11 @@ since-onto {m} {a} {n} first up keeps second g h = go (second g h)
   where
     spared : Spared a n g → (IsFace m g × Spared m a g) ⊎ Came m a g → (IsFace m g × Spared m n g) ⊎ Came m n g
     spared p (inl w) = inl (w .0, spared-onto (w .1) p)
-    spared p (inr w) = inr (record { counted = rw (p .record-stays 0) (w .counted); mid = w .mid; ring = w .ring; keeps = keeps-onto (w .keeps) keeps; gains = gains-onto (w .gains) (spared-gains p) })
+    spared p (inr w) = inr (record { counted = rw (p .record-stays 0) (w .counted); mid = w .mid; ring = w .ring; apart = w .apart; keeps = keeps-onto (w .keeps) keeps; gains = gains-onto (w .gains) (spared-gains p) })
 
     go : (IsFace a g × Spared a n g) ⊎ Came a n g → (IsFace m g × Spared m n g) ⊎ Came m n g
     go (inl w) = spared (w .1) (first g (w .0))
-    go (inr w) = inr (record { counted = omega (arith, w .counted); mid = w .mid; ring = w .ring; keeps = w .keeps; gains = w .gains })
+    go (inr w) = inr (record { counted = omega (arith, w .counted); mid = w .mid; ring = w .ring; apart = w .apart; keeps = w .keeps; gains = w .gains })
 
 -- a removal, a new vertex and a new edge spare every face that they leave
 pub remove-since : (m : Mesh) (s : SoundFacts m) (f : ℕ) → IsFace m f → FacesSince m (remove m f)
@@ -259,10 +269,10 @@ pub put-left : {m a r : Mesh} {per : List ℕ} {near : ℕ → Type 0} → AllBu
 put-left s start p on = (p .base, local-onto s start (p .local) (λ v u h. h) on)
 
 -- no arc of its perimeter holds a face, so it spares every face that was there
-pub put-since : {m a r : Mesh} {per : List ℕ} → FacesSince m a → nextKey m faceKind ≤ nextKey a faceKind → T (not (conflict a per)) → Put a r per → FacesSince m r
-put-since {a = a} {per = per} since up free p = since-put since up p (λ g u v. p .spares g v (not-on a per free g (λ z. let l = in-table (a .faces) g v in omega arith)))
+pub put-since : {m a r : Mesh} {per : List ℕ} → FacesSince m a → nextKey m faceKind ≤ nextKey a faceKind → T (not (hasHair a per)) → T (not (conflict a per)) → Put a r per → FacesSince m r
+put-since {a = a} {per = per} since up hair free p = since-put since up hair p (λ g u v. p .spares g v (not-on a per free g (λ z. let l = in-table (a .faces) g v in omega arith)))
 
 -- as an edit
-pub insert-reaching : (m : Mesh) → AllButRings m → (per : List ℕ) → Perimeter m per → ThreeCounters m → Met m (insertNeed m per) → T (not (conflict m per)) → (mark : ℕ) → Reaching (λ v. T (has per v)) m (insertWork m per mark) (insertWorkBy ruled m per mark)
-insert-reaching m s per p k w free mark =
-    along-so (along-insert m s per p k w ruled ruled-like mark (λ r z. z) (λ r z. z)) (λ r z. put-since (since-none m) (omega arith) free z) (λ r z. put-left s (local-none m) z (λ v u h. h))
+pub insert-reaching : (m : Mesh) → AllButRings m → (per : List ℕ) → Perimeter m per → ThreeCounters m → Met m (insertNeed m per) → T (not (hasHair m per)) → T (not (conflict m per)) → (mark : ℕ) → Reaching (λ v. T (has per v)) m (insertWork m per mark) (insertWorkBy ruled m per mark)
+insert-reaching m s per p k w hair free mark =
+    along-so (along-insert m s per p k w ruled ruled-like mark (λ r z. z) (λ r z. z)) (λ r z. put-since (since-none m) (omega arith) hair free z) (λ r z. put-left s (local-none m) z (λ v u h. h))

@@ -11,10 +11,10 @@ use lib.ListN.{length, getD, length-map}
 use lib.Dec.{T, eqb, ltb, T-not}
 use borrow.Author.Tests.{ltb-false, ne-eqb}
 use Rattle.rules.specs.declared.Answer.the-variants.{Done, Refused}
-use Rattle.rules.specs.declared.Refusal.the-variants.{TopologyMalformed, TopologyNotFound, TopologyConflict}
+use Rattle.rules.specs.declared.Refusal.the-variants.{TopologyMalformed, TopologyNotFound, TopologyConflict, SamePlace}
 use Rattle.rules.specs.Table.{has, distinct, someBelow}
 use Rattle.rules.specs.Mesh.{Mesh, face, keyAt, findVertex}
-use Rattle.rules.specs.Insert.{arcAt, malformed, hasFace, leadsBack, conflict, insertChecks}
+use Rattle.rules.specs.Insert.{arcAt, malformed, inOneSpot, hasHair, hasFace, leadsBack, conflict, insertChecks}
 use Rattle.rules.specs.Step.{accepted}
 use Rattle.rules.specs.Call.{byKeys}
 use Rattle.proved.specs.Facts.{IsVertex}
@@ -29,22 +29,30 @@ pub record Passed (m : Mesh) (keys per : List ℕ) : Type 0 where
   pub at-least-3 : 3 ≤ length keys
   pub keys-differ : T (distinct keys)
   pub all-known : T (not (has per 0))
+  pub no-hair : T (not (hasHair m per))
   pub no-conflict : T (not (conflict m per))
 
 pub passed : (m : Mesh) (keys per : List ℕ) → T (accepted (insertChecks m keys per)) → Passed m keys per
 unfolding insertChecks malformed accepted
-passed m keys per h = go (ltb (length keys) 3) refl (distinct keys) refl (has per 0) refl (conflict m per) refl h
+passed m keys per h = go (ltb (length keys) 3) refl (distinct keys) refl (has per 0) refl (hasHair m per) refl (conflict m per) refl h
   where
-    go : (a : Bool) → ltb (length keys) 3 ≡ a → (b : Bool) → distinct keys ≡ b → (c : Bool) → has per 0 ≡ c → (d : Bool) → conflict m per ≡ d → T (accepted (cond (a || not b) (Refused TopologyMalformed) (cond c (Refused TopologyNotFound) (cond d (Refused TopologyConflict) Done)))) → Passed m keys per
-    go true e b f c g d i q = absurd q
-    go false e true f true g d i q = absurd q
-    go false e true f false g true i q = absurd q
-    go false e true f false g false i q = record { at-least-3 = ltb-false (length keys) 3 e; keys-differ = rw f tt; all-known = rw g tt; no-conflict = rw i tt }
-    go false e false f c g d i q = absurd q
+    go : (a : Bool) → ltb (length keys) 3 ≡ a → (b : Bool) → distinct keys ≡ b → (c : Bool) → has per 0 ≡ c → (t : Bool) → hasHair m per ≡ t → (d : Bool) → conflict m per ≡ d → T (accepted (cond (a || not b) (Refused TopologyMalformed) (cond c (Refused TopologyNotFound) (cond t (Refused SamePlace) (cond d (Refused TopologyConflict) Done))))) → Passed m keys per
+    go true e b f c g t j d i q = absurd q
+    go false e true f true g t j d i q = absurd q
+    go false e true f false g true j d i q = absurd q
+    go false e true f false g false j true i q = absurd q
+    go false e true f false g false j false i q =
+        record { at-least-3 = ltb-false (length keys) 3 e; keys-differ = rw f tt; all-known = rw g tt; no-hair = rw j tt; no-conflict = rw i tt }
+    go false e false f c g t j d i q = absurd q
+
+-- whether two neighbours are in one spot is told by positions alone
+pub hair-same : (m n : Mesh) (per : List ℕ) → n .positions ≡ m .positions → hasHair n per ≡ hasHair m per
+unfolding hasHair inOneSpot
+hair-same m n per e = rw e
 
 -- ---- an arc of the perimeter that is there has no face
 
-none-of : (p : ℕ → Bool) (n : ℕ) → T (not (someBelow p n)) → (i : ℕ) → i < n → T (not (p i))
+pub none-of : (p : ℕ → Bool) (n : ℕ) → T (not (someBelow p n)) → (i : ℕ) → i < n → T (not (p i))
 unfolding someBelow
 none-of p zero h i l = absurd (not-suc-le-zero l)
 none-of p (suc n) h i l = go (someBelow p n) (p n) refl h (none-of p n) (ℕ-discrete i n)

@@ -6,9 +6,10 @@ use mathlib.Core.Logic.{_⊎_}
 use lib.ListN.{length}
 use lib.Dec.{T}
 use Rattle.rules.specs.Table.{has, freeRow}
-use Rattle.rules.specs.Mesh.{Mesh, face, keyAt, faceKind, nextKey}
+use Rattle.rules.specs.Mesh.{Mesh, source, dest, face, keyAt, faceKind, nextKey}
 use Rattle.rules.specs.Insert.{arcAt, listsOf, putFace, insertWork}
 use Rattle.rules.specs.Call.{insertNeed, pairsWithout}
+use Rattle.proved.specs.Demand.{Holds}
 use Rattle.proved.specs.Facts.{RingFacts, IsFace, IsArc}
 use Rattle.kept.specs.Frame.{AllButRings, ThreeCounters, Met}
 use Rattle.kept.specs.Perimeter.{Perimeter, corner, following, ListsLeave}
@@ -19,7 +20,7 @@ use Rattle.kept.specs.Suffices.{Tally}
 use Rattle.kept.proofs.Find.{Between}
 use Rattle.kept.proofs.Lists.{lists-leave}
 use Rattle.kept.proofs.Insert.{insert-kept}
-use Rattle.kept.proofs.Reaches.{NotOn, insert-ends, insert-joined, insert-makes, insert-spares, insert-local, insert-gains, insert-cases, insert-new-ring, insert-new-key, insert-holds, insert-faces-stay}
+use Rattle.kept.proofs.Reaches.{NotOn, insert-ends, insert-joined, insert-makes, insert-spares, insert-local, insert-gains, insert-cases, insert-new-ring, insert-new-key, insert-new-arcs, insert-positions-stay, insert-holds, insert-faces-stay}
 use Rattle.kept.proofs.Makers.{insert-by}
 use Rattle.kept.proofs.Tallies.{tally-insert}
 use Rattle.kept.proofs.Along.{Along}
@@ -38,6 +39,9 @@ pub record Put (m r : Mesh) (per : List ℕ) : Type 0 where
   pub face-cases : (g : ℕ) → IsFace r g → (g ≡ new) ⊎ IsFace m g
   pub new-ring : RingFacts r new
   pub new-key : keyAt (r .faces) new ≡ nextKey m faceKind
+  -- the arcs that hold it join the perimeter's pairs, and positions stay
+  pub new-arcs : (x : ℕ) → Holds r new x → (i : ℕ) × (i < length per) × (source r x ≡ corner per i) × (dest r x ≡ following per i)
+  pub positions-stay : r .positions ≡ m .positions
   -- the perimeter's arcs have a face, and every other arc keeps its own
   pub holds : (x i : ℕ) → IsArc m x → i < length per → x ≡ arcAt m per i → face r x ≡ 0 → ⊥
   pub faces-stay : (x : ℕ) → IsArc m x → ((i : ℕ) → i < length per → x ≡ arcAt m per i → ⊥) → face r x ≡ face m x
@@ -57,6 +61,8 @@ module _ (m : Mesh) (s : AllButRings m) (per : List ℕ) (p : Perimeter m per) (
         face-cases = insert-cases m s per p k w lists leave mark;
         new-ring = insert-new-ring m s per p k w lists leave mark;
         new-key = insert-new-key m s per p k w lists leave mark;
+        new-arcs = insert-new-arcs m s per p k w lists leave mark;
+        positions-stay = insert-positions-stay m s per p k w lists leave mark;
         holds = insert-holds m s per p k w lists leave mark;
         faces-stay = insert-faces-stay m s per p k w lists leave mark;
       }

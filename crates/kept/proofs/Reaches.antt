@@ -9,6 +9,10 @@ use mathlib.Core.List.{List, [], _∷_}
 use mathlib.Core.Logic.{_⊎_, inl, inr}
 use lib.ListN.{length, length-set}
 use lib.Dec.{T, eqb, leb→le}
+use lib.Ieee.{Float}
+use Rattle.rules.specs.Point.{positionAt}
+use Rattle.kept.proofs.NewRing.{among}
+use Rattle.kept.proofs.Face.{unheld}
 use Rattle.rules.specs.declared.Edit.the-variants.{FaceInsert}
 use Rattle.rules.specs.Table.{Table, cell, there, has, freeRow, after, count, unused, sumBelow}
 use Rattle.rules.specs.Mesh.{Mesh, Room, mesh, ringLimit, source, dest, next, previous, face, vertexKind, edgeKind, faceKind, nextKey, oneUp, keyAt}
@@ -212,6 +216,7 @@ module _ (m : Mesh) (s : AllButRings m) (per : List ℕ) (p : Perimeter m per) (
         sources = λ x u. whole .ends .source-stays x ∙ old x 0 u;
         dests = λ x u. whole .ends .dest-stays x ∙ old x 1 u;
         vertices = λ v u. grown-vertex (up .grown) v u;
+        places = λ v u. ap (λ (z : List (List Float)). positionAt z v) (up .grown .positions-stay);
         arc-rows = whole .ends .rows ∙ up .grown .arc-rows;
         counter-rows = length-set (m₁ .counters) faceKind (oneUp (nextKey m₁ faceKind)) ∙ up .grown .counter-rows;
       }
@@ -276,6 +281,26 @@ module _ (m : Mesh) (s : AllButRings m) (per : List ℕ) (p : Perimeter m per) (
       ∙ ap (λ (z : ℕ). z - 1) (took .row 0)
       ∙ key-back (nextKey m₁ faceKind) (room-up m s per p k w .a-key)
       ∙ up .grown .face-counter
+
+  pub insert-positions-stay : putFace m per lists mark .positions ≡ m .positions
+  insert-positions-stay = ap (λ (n : Mesh). n .positions) (made .is) ∙ up .grown .positions-stay
+
+  -- what holds the new face joins a pair of the perimeter
+  new-arcs : (x : ℕ) → Holds r f x → (i : ℕ) × (i < length per) × (source r x ≡ corner per i) × (dest r x ≡ following per i)
+  new-arcs x h = go (among (arcAt m₁ per) (length per) x)
+    where
+      here : IsArc m₁ x
+      here = was x (h .exists)
+
+      go : ((i : ℕ) × (i < length per) × (x ≡ arcAt m₁ per i)) ⊎ ((i : ℕ) → i < length per → x ≡ arcAt m₁ per i → ⊥) → (i : ℕ) × (i < length per) × (source r x ≡ corner per i) × (dest r x ≡ following per i)
+      go (inl (i, l, e)) = (i, l, whole .ends .source-stays x ∙ ap (source m₁) e ∙ joins i l .leaves, whole .ends .dest-stays x ∙ ap (dest m₁) e ∙ joins i l .arrives)
+      go (inr off) = absurd (unheld m₁ s₁ (room-up m s per p k w) (arcAt m₁ per 0) mark x here (sym (whole .faces-stay x off) ∙ h .its-face))
+
+  pub insert-new-arcs : (x : ℕ) → Holds (putFace m per lists mark) (freeRow (m .faces)) x → (i : ℕ) × (i < length per) × (source (putFace m per lists mark) x ≡ corner per i) × (dest (putFace m per lists mark) x ≡ following per i)
+  insert-new-arcs =
+      let a : (x : ℕ) → Holds (putFace m per lists mark) f x → (i : ℕ) × (i < length per) × (source (putFace m per lists mark) x ≡ corner per i) × (dest (putFace m per lists mark) x ≡ following per i)
+      = subst (λ (n : Mesh). (x : ℕ) → Holds n f x → (i : ℕ) × (i < length per) × (source n x ≡ corner per i) × (dest n x ≡ following per i)) (sym (made .is)) new-arcs in
+      subst (λ (z : Table). (x : ℕ) → Holds (putFace m per lists mark) (freeRow z) x → (i : ℕ) × (i < length per) × (source (putFace m per lists mark) x ≡ corner per i) × (dest (putFace m per lists mark) x ≡ following per i)) (up .grown .faces-stay) a
 
   -- the perimeter's arcs hold it, and every other arc keeps its face
   pub insert-holds : (x i : ℕ) → IsArc m x → i < length per → x ≡ arcAt m per i → face (putFace m per lists mark) x ≡ 0 → ⊥

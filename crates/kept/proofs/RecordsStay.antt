@@ -7,6 +7,7 @@ use mathlib.Core.Path.{_≡_, refl, sym, subst, _∙_}
 use mathlib.Core.Bool.{not}
 use mathlib.Core.List.{List, []}
 use lib.Dec.{T, eqb}
+use Rattle.kept.proofs.Vertex.{place-stays}
 use Rattle.rules.specs.declared.Position.{Position}
 use Rattle.rules.specs.declared.Edit.{Edit}
 use Rattle.rules.specs.Table.{cell, has, freeRow}
@@ -51,13 +52,10 @@ pub vertex-onto : {a b c : Mesh} (v : ℕ) → KeepsKeyAndPosition a b v → Kee
 vertex-onto v p q = record { exists = q .exists; same-key = q .same-key ∙ p .same-key; same-position = q .same-position ∙ p .same-position }
 
 by-vertex : (m : Mesh) (p : Position) → VerticesStay m (newVertex m p)
-unfolding newVertex putVertex positionAt
+unfolding newVertex putVertex
 by-vertex m p v u =
     let free = freeRow (m .vertices) in
-    let n = free-differs (m .vertices) v u in
-    let some = in-table (m .vertices) v u .0 in
-    vertex-kept v u (putRow-other (m .vertices) free _ v 0 n)
-    (rw (putRow-rows (m .positions) free (rowOf p), row-other (m .positions) (rowOf p) [] free v some n))
+    vertex-kept v u (putRow-other (m .vertices) free _ v 0 (free-differs (m .vertices) v u)) (place-stays m p v u)
 
 by-edge : (m : Mesh) (a b : ℕ) → VerticesStay m (newEdge m a b)
 unfolding newEdge newArc

@@ -15,11 +15,11 @@ use Rattle.rules.specs.Table.{upTo, has, someBelow}
 use Rattle.rules.specs.Mesh.{Mesh, face}
 use Rattle.rules.specs.Link.{ring, ringVertices}
 use Rattle.rules.specs.Step.{Step, step, accepted, andThen, answering, checked}
-use Rattle.rules.specs.Insert.{malformed, hasFace, conflict, insertChecks, insertWork, insertFace}
+use Rattle.rules.specs.Insert.{malformed, hasHair, hasFace, conflict, insertChecks, insertWork, insertFace}
 use Rattle.rules.specs.Edit.{known, place, ringDistance, half, heldByOther, corners, splitChecks, arcBridgeChecks, bridgeChecks, removeWork, splitWork, pokeWork, arcBridgeWork, arcBridge, bridgeWork}
 use Rattle.rules.specs.Extrude.{arcExtrudeChecks, extrudeWork, arcExtrudeWork}
 use Rattle.rules.specs.Call.{checks, work}
-use Rattle.kept.specs.Exactly.{InMidEdit, three, four, five, bridges, OfChecks, as-in-mid-edit, six}
+use Rattle.kept.specs.Exactly.{InMidEdit, three, four, five, thirteen, bridges, OfChecks, as-in-mid-edit, six}
 
 -- D is said of an answer that is accepted, P of the refusal of one that is not
 unfoldable pub Says : Type 0 → (Refusal → Type 0) → Answer → Type 0
@@ -108,7 +108,7 @@ mild-known l = mild-or (eqb l 0) _ _ four mild-done
 mild-insert : (m : Mesh) (names per : List ℕ) → Mild (insertChecks m names per)
 unfolding insertChecks
 mild-insert m names per =
-    mild-or (malformed names) _ _ three (mild-or (has per 0) _ _ four (mild-or (conflict m per) _ _ five mild-done))
+    mild-or (malformed names) _ _ three (mild-or (has per 0) _ _ four (mild-or (hasHair m per) _ _ thirteen (mild-or (conflict m per) _ _ five mild-done)))
 
 mild-split : (m : Mesh) (f s d : ℕ) → Mild (splitChecks m f s d)
 unfolding splitChecks

@@ -200,7 +200,7 @@ module _ (m : Mesh) (s : SoundFacts m) (f : ℕ) (u : IsFace m f) where
   remove-ends =
       let w = removed .2 .linked .ends in
       subst (KeepsEnds m) (sym (removed .1))
-      (record { arcs = λ x h. subst (λ (z : ℕ). T (not (eqb z 0))) (sym (w .source-stays x)) h; sources = λ x h. w .source-stays x; dests = λ x h. w .dest-stays x; vertices = λ v h. h; arc-rows = w .rows; counter-rows = refl })
+      (record { arcs = λ x h. subst (λ (z : ℕ). T (not (eqb z 0))) (sym (w .source-stays x)) h; sources = λ x h. w .source-stays x; dests = λ x h. w .dest-stays x; vertices = λ v h. h; places = λ v h. refl; arc-rows = w .rows; counter-rows = refl })
 
   -- a face other than it is one still
   pub remove-face : (g : ℕ) → (g ≡ f → ⊥) → IsFace m g → IsFace (remove m f) g

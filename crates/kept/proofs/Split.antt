@@ -45,7 +45,7 @@ use Rattle.kept.proofs.Tells.{SearchedIn, searched-here, on-at, at-on, 
 use Rattle.kept.proofs.Spared.{spared-onto, same-ring}
 use Rattle.kept.proofs.Remove.{remove-kept, remove-spares, remove-ends, remove-was}
 use Rattle.kept.proofs.Lists.{lists-leave}
-use Rattle.kept.proofs.Passed.{Passed, passed, places-apart}
+use Rattle.kept.proofs.Passed.{Passed, passed, places-apart, hair-same}
 use Rattle.kept.proofs.Reaches.{NotOn, not-on}
 use Rattle.kept.proofs.Halves.{vertices-length, half-vertex, half-on, half-end, half-start, half-need}
 use Rattle.kept.proofs.Stretch.{stretch-ends}
@@ -289,8 +289,8 @@ module _ (m : Mesh) (s : SoundFacts m) (k : ThreeCounters m) (f a b : ℕ) (u : 
     -- both halves have come; of what was there before, the removed face is not, and the others are spared
     both-since : FacesSince m m₃
     both-since =
-        let first : FacesSince m₁ m₂ = put-since (since-none m₁) (omega arith) (ql .no-conflict) put₁ in
-        let second : FacesSince m₁ m₃ = since-put first (omega (arith, put₁ .tally .face-keys)) put₂ (λ g q v. let was = remove-was m s f u g q in put₂ .spares g v (off-right g (was .1) (was .0))) in
+        let first : FacesSince m₁ m₂ = put-since (since-none m₁) (omega arith) (ql .no-hair) (ql .no-conflict) put₁ in
+        let second : FacesSince m₁ m₃ = since-put first (omega (arith, put₁ .tally .face-keys)) (subst (λ (z : Bool). T (not z)) (sym (hair-same m₁ m₂ right (put₁ .positions-stay))) (qr .no-hair)) put₂ (λ g q v. let was = remove-was m s f u g q in put₂ .spares g v (off-right g (was .1) (was .0))) in
         since-onto (remove-since m s f u) (omega (arith, tally₁ .face-keys)) (keeps-onto (put₁ .keeps) (put₂ .keeps)) second
 
   -- a split works among the ring's vertices

@@ -11,7 +11,7 @@ use lib.Dec.{T}
 use Rattle.rules.specs.declared.Position.{Position}
 use Rattle.rules.specs.declared.Move.{Move}
 use Rattle.rules.specs.declared.Edit.the-variants.{VertexInsert}
-use Rattle.rules.specs.Table.{cell, there}
+use Rattle.rules.specs.Table.{cell, there, putRow, freeRow}
 use Rattle.rules.specs.Mesh.{Mesh, Room, leading, vertexKind, edgeKind, faceKind, nextKey, oneUp}
 use Rattle.rules.specs.Point.{rowOf, positionAt, finitePosition, finiteRow, exponentField}
 use Rattle.rules.specs.Link.{putVertex, newVertex, freeVertex}
@@ -25,10 +25,19 @@ use Rattle.proved.proofs.Clauses.{facts, sound-from, finite-row}
 use Rattle.kept.specs.Frame.{Took, RingStays, ThreeCounters, RoomForVertex}
 use Rattle.kept.specs.Reaches.{KeepsEnds}
 use Rattle.kept.proofs.Cells.{putRow-rows, row-here, row-other}
-use Rattle.kept.proofs.Free.{took, new-there, old-differs, old-there, old-cell, there-cases, took-zero, took-keys-differ, took-keys-below}
+use Rattle.kept.proofs.Free.{took, new-there, old-differs, old-there, old-cell, there-cases, took-zero, took-keys-differ, took-keys-below, free-differs}
 use Rattle.kept.proofs.Counted.{met, key-back, one-up-some, counted-here, counted-other}
 use Rattle.kept.proofs.Rings.{ring-stays}
 use Rattle.kept.proofs.Eight.{Behind, never-8}
+
+-- a vertex that was there keeps its place
+pub place-stays : (m : Mesh) (p : Position) (v : ℕ) → IsVertex m v → positionAt (putRow (m .positions) (freeRow (m .vertices)) (rowOf p)) v ≡ positionAt (m .positions) v
+unfolding positionAt
+place-stays m p v u =
+    let free = freeRow (m .vertices) in
+    let n = free-differs (m .vertices) v u in
+    let some = in-table (m .vertices) v u .0 in
+    rw (putRow-rows (m .positions) free (rowOf p), row-other (m .positions) (rowOf p) [] free v some n)
 
 module _ (m : Mesh) (p : Position) (r : RoomForVertex m) (s : SoundFacts m) where
   -- the new row, with its key and no leading arc; every other vertex keeps its row
@@ -68,7 +77,7 @@ module _ (m : Mesh) (p : Position) (r : RoomForVertex m) (s : SoundFacts m) wher
   pub vertex-ends : KeepsEnds m (newVertex m p)
   unfolding newVertex putVertex
   vertex-ends =
-      record { arcs = λ x h. h; sources = λ x h. refl; dests = λ x h. refl; vertices = λ v h. old-there vertex-took v h; arc-rows = refl; counter-rows = length-set (m .counters) vertexKind (oneUp (nextKey m vertexKind)) }
+      record { arcs = λ x h. h; sources = λ x h. refl; dests = λ x h. refl; vertices = λ v h. old-there vertex-took v h; places = λ v h. place-stays m p v h; arc-rows = refl; counter-rows = length-set (m .counters) vertexKind (oneUp (nextKey m vertexKind)) }
 
   -- the other counters stay
   pub other-keys : (c : ℕ) → (c ≡ vertexKind → ⊥) → nextKey (newVertex m p) c ≡ nextKey m c

@@ -13,38 +13,38 @@ use Rattle.rules.specs.declared.Edit.{Edit}
 use Rattle.rules.specs.declared.Edit.the-variants.{VertexInsert}
 use Rattle.rules.specs.Table.{Table, there, cell, put, putRow, firstRow, freeRow, count, every, someBelow, allBelow, sumBelow, upTo, has, distinct}
 use Rattle.rules.specs.Mesh.{Mesh, mesh, keyLimit, vertexKind, nextKey, oppositeOf, findKey, arcBetween, oneUp}
-use Rattle.rules.specs.Point.{position, zeroFloat, exponentField, finiteNumber, zeroNumber, positionAt, finitePosition, finiteRow, zeroPositionRow}
+use Rattle.rules.specs.Point.{position, zeroFloat, exponentField, finiteNumber, zeroNumber, positionAt, samePlace, finitePosition, finiteRow, zeroPositionRow}
 use Rattle.rules.specs.Link.{putVertex, newVertex, connect, setFace, walk, walkEnded, ring, ringEnded, arcCount, turnIn, outgoing, newArc, newEdge, getOrInsertEdge}
 use Rattle.rules.specs.Step.{Step, numberOf, told, accepted, andThen, answering, checked}
-use Rattle.rules.specs.Insert.{arcAt, malformed, hasFace, leadsBack, conflict, insertChecks, edgesIn, newFace, interior, facelessIn, exteriorAt, exterior, putFace, listsOf, insertWork, insertFace}
+use Rattle.rules.specs.Insert.{arcAt, malformed, inOneSpot, hasHair, hasFace, leadsBack, conflict, insertChecks, edgesIn, newFace, interior, facelessIn, exteriorAt, exterior, putFace, listsOf, insertWork, insertFace}
 use Rattle.rules.specs.Sound.{withinLimits, keysOf, keysDiffer, keysBelow, hasBothArcs, bothArcs, endsDiffer, endsExist, pairsDiffer, edgeJoins, leadsOut, nextLeaves, previousArrives, faceExists, namesHolder, closed, comesBack, threeToLimit, sourcesDiffer, ringHolds, holdersOnRing, runsBack, ringSound, ringsSound, positionsZero, restZero, allFinite, sound}
 use Rattle.rules.specs.Call.{roomEnough, zeroed, ready, given, byKeys, checks, movesFinite, pairsWithout, insertNeed, need, rowsFor, keysFor, roomFor, work, lastStep, worked, decided, kept, called, vertexInsert, faceInsert}
 use Rattle.rules.specs.Script.{emptyRoom, emptyMesh}
-use lib.Ieee.{span, climb, size, odd, units, round, ofFields, ofBits, toBits}
+use lib.Ieee.{span, climb, size, odd, units, round, ofFields, ofBits, toBits, eq}
 use Rattle.proved.proofs.Reached.{none-there}
 use Rattle.kept.specs.Reaches.{NoArcAt}
 use Rattle.makers.specs.Makers.{Makers, byLists, LikeRules, workBy}
 use Rattle.kept.specs.Suffices.{Suffices}
-use Rattle.proved.specs.Demand.{Made, made, afterCall, afterCalls, reached}
+use Rattle.proved.specs.Demand.{Made, made, afterCall, afterCalls, reached, threeApart}
 
 -- an empty mesh of one vertex row, without its counters
 abbrev uncounted : Mesh
 uncounted = mesh ((0 ∷ 0 ∷ []) ∷ []) ((zeroFloat ∷ zeroFloat ∷ zeroFloat ∷ []) ∷ []) [] [] [] []
 
 pub without-counters-8 : told (vertexInsert uncounted (emptyRoom 1 0 0) (emptyRoom 1 0 0) (position zeroFloat zeroFloat zeroFloat) .answer) .number ≡ 8
-unfolding cell put putRow firstRow freeRow count every someBelow allBelow sumBelow upTo has distinct findKey arcBetween oneUp exponentField finiteNumber zeroNumber positionAt finitePosition finiteRow zeroPositionRow putVertex newVertex numberOf told accepted withinLimits keysOf keysDiffer keysBelow hasBothArcs bothArcs endsDiffer endsExist pairsDiffer edgeJoins leadsOut nextLeaves previousArrives faceExists ringsSound positionsZero restZero allFinite sound roomEnough zeroed ready given checks movesFinite need rowsFor keysFor roomFor work lastStep worked decided kept called vertexInsert emptyRoom span climb size odd units round ofFields ofBits toBits
+unfolding cell put putRow firstRow freeRow count every someBelow allBelow sumBelow upTo has distinct findKey arcBetween oneUp exponentField finiteNumber zeroNumber positionAt samePlace finitePosition finiteRow zeroPositionRow putVertex newVertex numberOf told accepted withinLimits keysOf keysDiffer keysBelow hasBothArcs bothArcs endsDiffer endsExist pairsDiffer edgeJoins leadsOut nextLeaves previousArrives faceExists ringsSound positionsZero restZero allFinite sound roomEnough zeroed ready given checks movesFinite need rowsFor keysFor roomFor work lastStep worked decided kept called vertexInsert emptyRoom span climb size odd units round ofFields ofBits toBits eq
 without-counters-8 = refl
 
 -- three vertices, and a face on them
 abbrev three : List Made
-three = let corner = made (VertexInsert (position zeroFloat zeroFloat zeroFloat)) [] (emptyRoom 3 3 1) (emptyRoom 3 3 1) in corner ∷ corner ∷ corner ∷ []
+three = threeApart
 
 pub fresh-accepted : told (faceInsert (reached 3 3 1 three) (emptyRoom 3 3 1) (emptyRoom 3 3 1) (0 ∷ 1 ∷ 2 ∷ []) 7 .answer) .number ≡ 0
-unfolding cell put putRow firstRow freeRow count every someBelow allBelow sumBelow upTo has distinct oppositeOf findKey arcBetween oneUp exponentField finiteNumber zeroNumber positionAt finitePosition finiteRow zeroPositionRow putVertex newVertex connect setFace walk walkEnded ring ringEnded arcCount turnIn outgoing newArc newEdge getOrInsertEdge numberOf told accepted andThen answering checked arcAt malformed hasFace leadsBack conflict insertChecks edgesIn newFace interior facelessIn exteriorAt exterior putFace listsOf insertWork insertFace withinLimits keysOf keysDiffer keysBelow hasBothArcs bothArcs endsDiffer endsExist pairsDiffer edgeJoins leadsOut nextLeaves previousArrives faceExists namesHolder closed comesBack threeToLimit sourcesDiffer ringHolds holdersOnRing runsBack ringSound ringsSound positionsZero restZero allFinite sound roomEnough zeroed ready given byKeys checks movesFinite pairsWithout insertNeed need rowsFor keysFor roomFor work lastStep worked decided kept called faceInsert emptyRoom emptyMesh span climb size odd units round ofFields ofBits toBits afterCall afterCalls reached
+unfolding cell put putRow firstRow freeRow count every someBelow allBelow sumBelow upTo has distinct oppositeOf findKey arcBetween oneUp exponentField finiteNumber zeroNumber positionAt samePlace finitePosition finiteRow zeroPositionRow putVertex newVertex connect setFace walk walkEnded ring ringEnded arcCount turnIn outgoing newArc newEdge getOrInsertEdge numberOf told accepted andThen answering checked arcAt malformed inOneSpot hasHair hasFace leadsBack conflict insertChecks edgesIn newFace interior facelessIn exteriorAt exterior putFace listsOf insertWork insertFace withinLimits keysOf keysDiffer keysBelow hasBothArcs bothArcs endsDiffer endsExist pairsDiffer edgeJoins leadsOut nextLeaves previousArrives faceExists namesHolder closed comesBack threeToLimit sourcesDiffer ringHolds holdersOnRing runsBack ringSound ringsSound positionsZero restZero allFinite sound roomEnough zeroed ready given byKeys checks movesFinite pairsWithout insertNeed need rowsFor keysFor roomFor work lastStep worked decided kept called faceInsert emptyRoom emptyMesh span climb size odd units round ofFields ofBits toBits eq afterCall afterCalls reached threeApart
 fresh-accepted = refl
 
 no-arcs : reached 3 3 1 three .arcs ≡ replicate 6 (0 ∷ 0 ∷ 0 ∷ 0 ∷ 0 ∷ 0 ∷ [])
-unfolding cell put putRow firstRow freeRow count every someBelow allBelow sumBelow upTo has distinct oppositeOf findKey arcBetween oneUp exponentField finiteNumber zeroNumber positionAt finitePosition finiteRow zeroPositionRow putVertex newVertex connect setFace walk walkEnded ring ringEnded arcCount turnIn outgoing newArc newEdge getOrInsertEdge numberOf told accepted andThen answering checked arcAt malformed hasFace leadsBack conflict insertChecks edgesIn newFace interior facelessIn exteriorAt exterior putFace listsOf insertWork insertFace withinLimits keysOf keysDiffer keysBelow hasBothArcs bothArcs endsDiffer endsExist pairsDiffer edgeJoins leadsOut nextLeaves previousArrives faceExists namesHolder closed comesBack threeToLimit sourcesDiffer ringHolds holdersOnRing runsBack ringSound ringsSound positionsZero restZero allFinite sound roomEnough zeroed ready given byKeys checks movesFinite pairsWithout insertNeed need rowsFor keysFor roomFor work lastStep worked decided kept called faceInsert emptyRoom emptyMesh span climb size odd units round ofFields ofBits toBits afterCall afterCalls reached
+unfolding cell put putRow firstRow freeRow count every someBelow allBelow sumBelow upTo has distinct oppositeOf findKey arcBetween oneUp exponentField finiteNumber zeroNumber positionAt samePlace finitePosition finiteRow zeroPositionRow putVertex newVertex connect setFace walk walkEnded ring ringEnded arcCount turnIn outgoing newArc newEdge getOrInsertEdge numberOf told accepted andThen answering checked arcAt malformed inOneSpot hasHair hasFace leadsBack conflict insertChecks edgesIn newFace interior facelessIn exteriorAt exterior putFace listsOf insertWork insertFace withinLimits keysOf keysDiffer keysBelow hasBothArcs bothArcs endsDiffer endsExist pairsDiffer edgeJoins leadsOut nextLeaves previousArrives faceExists namesHolder closed comesBack threeToLimit sourcesDiffer ringHolds holdersOnRing runsBack ringSound ringsSound positionsZero restZero allFinite sound roomEnough zeroed ready given byKeys checks movesFinite pairsWithout insertNeed need rowsFor keysFor roomFor work lastStep worked decided kept called faceInsert emptyRoom emptyMesh span climb size odd units round ofFields ofBits toBits eq afterCall afterCalls reached threeApart
 no-arcs = refl
 
 pub fresh-there : NoArcAt (reached 3 3 1 three) (0 ∷ 1 ∷ 2 ∷ [])

@@ -12,14 +12,15 @@ use Rattle.rules.specs.declared.Move.{Move}
 use Rattle.rules.specs.declared.Edit.{Edit}
 use Rattle.rules.specs.declared.Edit.the-variants.{VertexInsert, FaceInsert, FaceRemove, FaceSplit, FacePoke, FaceBridge, FaceExtrude, ArcBridge, ArcExtrude}
 use Rattle.rules.specs.declared.Refusal.{Refusal}
-use Rattle.rules.specs.declared.Refusal.the-variants.{Tables, Argument, TopologyMalformed, TopologyNotFound, TopologyConflict, ArityNonUniform, NoRoom, WouldBreak}
+use Rattle.rules.specs.declared.Refusal.the-variants.{Tables, Argument, TopologyMalformed, TopologyNotFound, TopologyConflict, ArityNonUniform, NoRoom, WouldBreak, SamePlace}
 use Rattle.rules.specs.declared.Answer.{Answer}
 use Rattle.rules.specs.declared.Answer.the-variants.{Refused}
-use Rattle.rules.specs.Table.{distinct}
+use Rattle.rules.specs.Table.{has, distinct}
 use Rattle.rules.specs.Mesh.{Mesh, Room, ringLimit}
 use Rattle.rules.specs.Step.{accepted}
+use Rattle.rules.specs.Insert.{malformed, hasHair}
 use Rattle.rules.specs.Sound.{sound}
-use Rattle.rules.specs.Call.{ready, given, checks, movesFinite, need, roomFor, work, call, called, vertexInsert, faceInsert, faceRemove, faceSplit, facePoke, faceBridge, faceExtrude, arcBridgeCall, arcExtrude}
+use Rattle.rules.specs.Call.{ready, given, byKeys, checks, movesFinite, need, roomFor, work, call, called, vertexInsert, faceInsert, faceRemove, faceSplit, facePoke, faceBridge, faceExtrude, arcBridgeCall, arcExtrude}
 use Rattle.proved.specs.Demand.{Made, made}
 
 -- what a call answers: any of the nine edits, with its arguments and keys, and two rooms of any size and contents
@@ -99,11 +100,12 @@ pub data ByRust (m : Mesh) (c : Made) (r : Refusal) : Type 0 where
 
 -- ---- the Rust's numbers
 
--- 3, 4 and 5, in mid-edit too
+-- 3, 4 and 5, in mid-edit too, and document 02's 13
 pub data InMidEdit : Refusal → Type 0 where
   three : InMidEdit TopologyMalformed
   four : InMidEdit TopologyNotFound
   five : InMidEdit TopologyConflict
+  thirteen : InMidEdit SamePlace
 
 -- the edit is a bridge of two faces
 pub data Bridges : Edit → Type 0 where
@@ -130,6 +132,14 @@ pub record KeysMalformed (m : Mesh) (one two : Room) (keys : List ℕ) : Type 0 
   pub at-most-64 : length keys ≤ ringLimit
   pub few-or-twice : FewOrTwice keys
 
+-- 13 of a face insert: three keys or more, all known and none twice, and two neighbours, the last and first too, in one spot
+pub record KeysInOneSpot (m : Mesh) (one two : Room) (keys : List ℕ) : Type 0 where
+  pub is-ready : T (ready m one two)
+  pub at-most-64 : length keys ≤ ringLimit
+  pub well-formed : T (not (malformed keys))
+  pub all-known : T (not (has (byKeys m keys) 0))
+  pub one-spot : T (hasHair m (byKeys m keys))
+
 -- ---- the table of answer numbers
 
 unfoldable pub GivenWhen : Mesh → Made → Refusal → Type 0
@@ -139,5 +149,6 @@ GivenWhen m c TopologyMalformed = ByRust m c TopologyMalformed
 GivenWhen m c TopologyNotFound = ByRust m c TopologyNotFound
 GivenWhen m c TopologyConflict = ByRust m c TopologyConflict
 GivenWhen m c ArityNonUniform = Uneven m c
+GivenWhen m c SamePlace = ByRust m c SamePlace
 GivenWhen m c NoRoom = NeedNotMet m c
 GivenWhen m c WouldBreak = ResultBreaks m c

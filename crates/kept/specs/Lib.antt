@@ -8,3 +8,4 @@ pub mod Exactly
 pub mod Counters
 pub mod Unreached
 pub mod InTurn
+pub mod Hair

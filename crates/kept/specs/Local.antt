@@ -16,7 +16,7 @@ use Rattle.rules.specs.Call.{byKeys, work}
 use Rattle.proved.specs.Demand.{Holds, onward}
 use Rattle.proved.specs.Facts.{IsArc, IsEdge, IsFace, RingFacts}
 use Rattle.kept.specs.Frame.{AllButRings}
-use Rattle.kept.specs.Reaches.{KeepsEnds, Spared}
+use Rattle.kept.specs.Reaches.{KeepsEnds, Spared, Apart}
 
 -- ---- the vertices of an edit
 
@@ -59,6 +59,7 @@ pub record Came (m n : Mesh) (g : ℕ) : Type 0 where
   pub counted : nextKey m faceKind ≤ keyAt (n .faces) g
   pub mid : Mesh
   pub ring : RingFacts mid g
+  pub apart : (x : ℕ) → Holds mid g x → Apart mid x
   pub keeps : KeepsEnds mid n
   pub gains : GainsNothing mid n g
 

@@ -5,9 +5,10 @@ use mathlib.Core.List.{List}
 use mathlib.Core.Logic.{_⊎_}
 use lib.ListN.{length}
 use lib.Dec.{T}
+use mathlib.Core.Bool.{not}
 use Rattle.rules.specs.Table.{cell, after, has, count, unused}
 use Rattle.rules.specs.Mesh.{Mesh, source, dest, next, previous, face, edge, faceArc, mark, keyAt, findVertex, vertexKind, edgeKind, faceKind, nextKey}
-use Rattle.rules.specs.Point.{positionAt}
+use Rattle.rules.specs.Point.{positionAt, samePlace}
 use Rattle.rules.specs.Insert.{arcAt}
 use Rattle.rules.specs.Call.{pairsWithout}
 use Rattle.proved.specs.Demand.{Holds}
@@ -70,12 +71,13 @@ pub record Spared (m n : Mesh) (g : ℕ) : Type 0 where
   pub next-or : (x : ℕ) → Holds m g x → (next n x ≡ next m x) ⊎ (Holds n g (next n x) → ⊥)
   pub previous-or : (x : ℕ) → Holds m g x → (previous n x ≡ previous m x) ⊎ (Holds n g (previous n x) → ⊥)
 
--- every arc of m is an arc of n with the same ends, every vertex a vertex, and there are as many rows of arcs and counters
+-- every arc of m is an arc of n with the same ends, every vertex a vertex at the same place, and there are as many rows of arcs and counters
 pub record KeepsEnds (m n : Mesh) : Type 0 where
   pub arcs : (x : ℕ) → IsArc m x → IsArc n x
   pub sources : (x : ℕ) → IsArc m x → source n x ≡ source m x
   pub dests : (x : ℕ) → IsArc m x → dest n x ≡ dest m x
   pub vertices : (v : ℕ) → IsVertex m v → IsVertex n v
+  pub places : (v : ℕ) → IsVertex m v → positionAt (n .positions) v ≡ positionAt (m .positions) v
   pub arc-rows : length (n .arcs) ≡ length (m .arcs)
   pub counter-rows : length (n .counters) ≡ length (m .counters)
 
@@ -84,6 +86,12 @@ pub record KeepsKeyAndPosition (m n : Mesh) (v : ℕ) : Type 0 where
   pub exists : IsVertex n v
   pub same-key : keyAt (n .vertices) v ≡ keyAt (m .vertices) v
   pub same-position : positionAt (n .positions) v ≡ positionAt (m .positions) v
+
+-- the ends of an arc are vertices apart: not at equal positions
+pub record Apart (m : Mesh) (x : ℕ) : Type 0 where
+  pub from-vertex : IsVertex m (source m x)
+  pub to-vertex : IsVertex m (dest m x)
+  pub two-spots : T (not (samePlace (positionAt (m .positions) (source m x)) (positionAt (m .positions) (dest m x))))
 
 -- the face g has in n the record it has in m, and the same ring, arc for arc
 pub record SameRing (m n : Mesh) (g : ℕ) : Type 0 where

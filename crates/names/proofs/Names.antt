@@ -45,10 +45,6 @@ module _ (names : List ℕ) (n : ℕ) where
       go j b (yes z) = or-l (eqb (getD names j 0) 0) _ (same-T _ _ z)
       go j b (no z) = or-r (eqb (getD names j 0) 0) _ (all-from (λ k. not (eqb (getD names k 0) (getD names j 0))) j (λ k l. differ-T _ _ (λ e. let q = h k j (omega arith) b (λ y. z (sym e ∙ y)) e in omega arith)))
 
-  -- the test and the fact
-  pub differ-means : T (differ names n) ↔ Differ names n
-  differ-means = (differ-shows, differ-from)
-
   pub shown : Differ names n → true ≡ differ names n
   shown h = sym (T-true (differ names n) (differ-from h))
 

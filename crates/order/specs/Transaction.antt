@@ -44,16 +44,6 @@ beforeWork m e keys =
     (cond (not (accepted (checks m e keys))) (checks m e keys)
     (cond (not (movesFinite m e)) (Refused Argument) (cond (not (roomFor m (need m e keys))) (Refused NoRoom) Done)))
 
--- a room whose tables are not shorter than those of m, and two tables besides
-pub record Fits (m r : Room) (a e : Table) : Type 0 where
-  pub vertices : length (m .vertices) ≤ length (r .vertices)
-  pub positions : length (m .positions) ≤ length (r .positions)
-  pub arcs : length (m .arcs) ≤ length (r .arcs)
-  pub edges : length (m .edges) ≤ length (r .edges)
-  pub faces : length (m .faces) ≤ length (r .faces)
-  pub past : length (m .arcs) ≤ length a
-  pub pastedges : length (m .edges) ≤ length e
-
 -- ---- how it is known that what an edit leaves is sound
 
 -- Keeps: kept by proof; it refuses nothing in mid-edit, so it is accepted before its first change. Near: told by the rings near it, since it reaches no

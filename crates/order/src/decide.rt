@@ -92,7 +92,7 @@ pub fn decide(
     if !checks::call::given(edit, keys) {
         return Answer::Refused(Refusal::Argument);
     }
-    let check = checks::call::checks_of(vertices, arcs, faces, edit, keys);
+    let check = checks::call::checks_of(vertices, positions, arcs, faces, edit, keys);
     if !answers::accepted(check) {
         return check;
     }

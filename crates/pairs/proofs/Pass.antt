@@ -43,10 +43,6 @@ module _ (l : List ℕ) where
           let before : i ≡ k → ⊥ = λ e. ne (ap (λ (j : ℕ). getD l j 0 % markCount) e) in
           getD-set-other (marked k) (getD l k 0 % markCount) (getD l i 0 % markCount) true false ne ∙ ih (omega arith)
 
-  pub marks-length : length (marksOf l) ≡ markCount
-  unfolding marksOf markedAt marked
-  marks-length = marked-length (length l)
-
   -- a number with no mark at its remainder is not in the list
   pub unmarked : (x : ℕ) → getD (marksOf l) (x % markCount) false ≡ false → (i : ℕ) → i < length l → x ≡ getD l i 0 → ⊥
   unfolding marksOf markedAt marked

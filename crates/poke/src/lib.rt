@@ -46,6 +46,7 @@ fn part(vs: Links, i: usize, c: u32) -> Links
 // The parts, ring pair by ring pair: done, or the first refusal.
 fn parts_in(
     vertices: &mut [VertexRow],
+    positions: &[PositionRow],
     arcs: &mut [ArcRow],
     edges: &mut [EdgeRow],
     faces: &mut [FaceRow],
@@ -59,10 +60,9 @@ fn parts_in(
 ) -> Answer
     requires { ⌜ Known (now arcs) (now edges) (now faces) (now seen) (now near) around ⌝ }
     ensures { λ r. ⌜
-        ((p : List (List Float)) →
-        step (meshAfter vertices (unlent p) arcs edges faces counters) r
+        (step (meshAfter vertices positions arcs edges faces counters) r
         ≡ eachIn (λ i a. insertFaceBy searching a (getD (listOf vs) i 0 ∷ getD (listOf vs) (after (length (listOf vs)) i) 0 ∷ c ∷ []) mark)
-        (length (listOf vs)) (meshBefore vertices (unlent p) arcs edges faces counters))
+        (length (listOf vs)) (meshBefore vertices positions arcs edges faces counters))
         ⌝ }
 {
     let n = lists::size(vs);
@@ -70,6 +70,7 @@ fn parts_in(
     while i < n {
         let told = face::insert_face(
             vertices,
+            positions,
             arcs,
             edges,
             faces,
@@ -91,6 +92,7 @@ fn parts_in(
 // The faces (a, b, c) of all ring pairs. The arcs near the ring and the new vertex are listed once, before the first.
 fn parts_near(
     vertices: &mut [VertexRow],
+    positions: &[PositionRow],
     arcs: &mut [ArcRow],
     edges: &mut [EdgeRow],
     faces: &mut [FaceRow],
@@ -100,10 +102,9 @@ fn parts_near(
     mark: u32,
 ) -> Answer
     ensures { λ r. ⌜
-        ((p : List (List Float)) →
-        step (meshAfter vertices (unlent p) arcs edges faces counters) r
+        (step (meshAfter vertices positions arcs edges faces counters) r
         ≡ eachIn (λ i a. insertFaceBy searching a (getD (listOf vs) i 0 ∷ getD (listOf vs) (after (length (listOf vs)) i) 0 ∷ c ∷ []) mark)
-        (length (listOf vs)) (meshBefore vertices (unlent p) arcs edges faces counters))
+        (length (listOf vs)) (meshBefore vertices positions arcs edges faces counters))
         ⌝ }
 {
     lists::known_few(vs);
@@ -114,6 +115,7 @@ fn parts_near(
     let around = near::near_edit(&mut seen, &mut links, arcs, edges, faces, vs, new, made);
     parts_in(
         vertices,
+        positions,
         arcs,
         edges,
         faces,
@@ -148,6 +150,16 @@ pub fn poke_work(
     let key = counters[0];
     edges::face::remove_face(arcs, faces, f);
     let c = edges::vertex::new_vertex(vertices, positions, counters, 0, position);
-    let told = parts_near(vertices, arcs, edges, faces, counters, vs, c, mark);
+    let told = parts_near(
+        vertices,
+        positions,
+        arcs,
+        edges,
+        faces,
+        counters,
+        vs,
+        c,
+        mark,
+    );
     pieces::answering(Answer::Key(key), told)
 }

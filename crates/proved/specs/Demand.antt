@@ -2,9 +2,10 @@
 use Prim.Native.Nat.{ℕ, _+_, _-_, _*_, _≤_, _<_}
 use mathlib.Core.Path.{_≡_}
 use mathlib.Core.Bool.{Bool, not, _&&_, cond}
-use mathlib.Core.List.{List, [], _∷_}
+use mathlib.Core.List.{List, [], _∷_, _++_}
 use lib.ListN.{length, getD}
 use lib.Dec.{T, eqb}
+use lib.Ieee.{binary64, ofBits}
 use Rattle.rules.specs.declared.Position.{Position}
 use Rattle.rules.specs.declared.Move.{Move}
 use Rattle.rules.specs.declared.Edit.{Edit}
@@ -49,11 +50,14 @@ pub record PublicCalls (m : Mesh) (one two : Room) : Type 0 where
   pub arc-bridge : (a b c d : ℕ) → arcBridgeCall m one two a b c d .mesh ≡ afterCall m (made (ArcBridge a b c d) [] one two)
   pub arc-extrude : (s d : ℕ) (move : Move) → arcExtrude m one two s d move .mesh ≡ afterCall m (made (ArcExtrude s d move) [] one two)
 
--- three vertices and a face on them
+-- three vertices apart, at (0,0,0), (1,0,0) and (2,0,0); and a face on them
+unfoldable pub threeApart : List Made
+threeApart =
+    let corner : ℕ → Made = λ bits. made (VertexInsert (position (ofBits binary64 bits) zeroFloat zeroFloat)) [] (emptyRoom 3 3 1) (emptyRoom 3 3 1) in
+    corner 0 ∷ corner 4607182418800017408 ∷ corner 4611686018427387904 ∷ []
+
 unfoldable pub triangle : List Made
-triangle =
-    let corner = made (VertexInsert (position zeroFloat zeroFloat zeroFloat)) [] (emptyRoom 3 3 1) (emptyRoom 3 3 1) in
-    corner ∷ corner ∷ corner ∷ made (FaceInsert 7) (0 ∷ 1 ∷ 2 ∷ []) (emptyRoom 3 3 1) (emptyRoom 3 3 1) ∷ []
+triangle = threeApart ++ (made (FaceInsert 7) (0 ∷ 1 ∷ 2 ∷ []) (emptyRoom 3 3 1) (emptyRoom 3 3 1) ∷ [])
 
 -- from an empty mesh with tables for v vertices, e edges and f faces, after any calls
 unfoldable pub reached : ℕ → ℕ → ℕ → List Made → Mesh

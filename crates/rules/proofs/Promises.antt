@@ -12,7 +12,7 @@ use native.Mathlib.Omega.{arith}
 use Rattle.rules.specs.declared.Position.{Position}
 use Rattle.rules.specs.declared.Move.{Move}
 use Rattle.rules.specs.declared.Refusal.{Refusal}
-use Rattle.rules.specs.declared.Refusal.the-variants.{Tables, Argument, TopologyMalformed, TopologyNotFound, TopologyConflict, ArityNonUniform, NoRoom, WouldBreak}
+use Rattle.rules.specs.declared.Refusal.the-variants.{Tables, Argument, TopologyMalformed, TopologyNotFound, TopologyConflict, ArityNonUniform, NoRoom, WouldBreak, SamePlace}
 use Rattle.rules.specs.declared.Answer.{Answer}
 use Rattle.rules.specs.declared.Answer.the-variants.{Key, Arc, Mark, Arity, Done, Refused}
 use Rattle.rules.specs.declared.Edit.{Edit}
@@ -22,7 +22,7 @@ use Rattle.rules.specs.Table.{upTo, after, has, someBelow}
 use Rattle.rules.specs.Mesh.{Mesh, Room, face, findFace, findVertex, findArc, mark}
 use Rattle.rules.specs.Link.{ring, ringVertices, newVertex, freeVertex, getOrInsertEdge}
 use Rattle.rules.specs.Step.{Step, step, stops, told, accepted, numberOf, andThen, answering, checked}
-use Rattle.rules.specs.Insert.{malformed, hasFace, conflict, insertChecks, insertWork, insertFace, listsOf, putFace}
+use Rattle.rules.specs.Insert.{malformed, hasHair, hasFace, conflict, insertChecks, insertWork, insertFace, listsOf, putFace}
 use Rattle.rules.specs.Edit.{known, remove, removeWork, place, ringDistance, half, heldByOther, corners, splitChecks, splitWork, pokeWork, arcBridgeChecks, arcBridgeWork, arcBridge, bridgeChecks, bridgeWork}
 use Rattle.rules.specs.Extrude.{Copies, copies, wall, extrudeWork, arcExtrudeChecks, arcExtrudeWork}
 use Rattle.rules.specs.Sound.{sound}
@@ -68,6 +68,7 @@ refused-number TopologyConflict e = omega arith
 refused-number ArityNonUniform e = omega arith
 refused-number NoRoom e = omega arith
 refused-number WouldBreak e = omega arith
+refused-number SamePlace e = omega arith
 
 not-zero-refused : (a : Answer) → (told a .number ≡ 0 → ⊥) → accepted a ≡ false
 not-zero-refused a h = go (accepted a) refl
@@ -103,6 +104,7 @@ data Own : Refusal → Type 0 where
   own-malformed : Own TopologyMalformed
   own-not-found : Own TopologyNotFound
   own-conflict : Own TopologyConflict
+  own-same-place : Own SamePlace
   own-non-uniform : Own ArityNonUniform
   own-no-room : Own NoRoom
   own-would-break : Own WouldBreak
@@ -113,6 +115,7 @@ fair-refusal own-argument e = omega arith
 fair-refusal own-malformed e = omega arith
 fair-refusal own-not-found e = omega arith
 fair-refusal own-conflict e = omega arith
+fair-refusal own-same-place e = omega arith
 fair-refusal own-non-uniform e = omega arith
 fair-refusal own-no-room e = omega arith
 fair-refusal own-would-break e = omega arith
@@ -152,7 +155,7 @@ fair-known l = fair-four (eqb l 0) false false false Done own-not-found own-not-
 fair-insertChecks : (m : Mesh) (names per : List ℕ) → Fair (insertChecks m names per)
 unfolding insertChecks
 fair-insertChecks m names per =
-    fair-four (malformed names) (has per 0) (conflict m per) false Done own-malformed own-not-found own-conflict own-conflict fair-done
+    fair-four (malformed names) (has per 0) (hasHair m per) (conflict m per) Done own-malformed own-not-found own-same-place own-conflict fair-done
 
 fair-splitChecks : (m : Mesh) (f s d : ℕ) → Fair (splitChecks m f s d)
 unfolding splitChecks

@@ -17,9 +17,6 @@ joins-yes a b r p q = rw (eq-eqb _ _ p, eq-eqb _ _ q)
 pub joins-no-source : (a b : ℕ) (r : List ℕ) → (getD r 0 0 ≡ a → ⊥) → joins a b r ≡ false
 joins-no-source a b r p = rw (ne-eqb _ _ p)
 
-pub joins-no-dest : (a b : ℕ) (r : List ℕ) → getD r 0 0 ≡ a → (getD r 1 0 ≡ b → ⊥) → joins a b r ≡ false
-joins-no-dest a b r p q = rw (eq-eqb _ _ p, ne-eqb _ _ q)
-
 and-false : (b : Bool) → (b && false) ≡ false
 and-false true = refl
 and-false false = refl

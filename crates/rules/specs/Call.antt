@@ -13,7 +13,7 @@ use Rattle.rules.specs.declared.Answer.the-variants.{Key, Arity, Done, R
 use Rattle.rules.specs.declared.Edit.{Edit}
 use Rattle.rules.specs.declared.Edit.the-variants.{VertexInsert, FaceInsert, FaceRemove, FaceSplit, FacePoke, FaceBridge, FaceExtrude, ArcBridge, ArcExtrude}
 use Rattle.rules.specs.declared.Call.{Call}
-use Rattle.rules.specs.Table.{Table, count, every, unused, sumBelow}
+use Rattle.rules.specs.Table.{count, every, unused, sumBelow}
 use Rattle.rules.specs.Mesh.{Mesh, mesh, Room, room, ringLimit, keyLimit, source, dest, findVertex, findFace, findArc, vertexKind, edgeKind, faceKind, nextKey}
 use Rattle.rules.specs.Point.{zeroFloat, finitePosition, finiteMove}
 use Rattle.rules.specs.Link.{ring, ringVertices, newVertex}

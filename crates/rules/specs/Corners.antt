@@ -70,14 +70,14 @@ previousOf k s d = arcRecord (k .mesh) (arcByKeys (k .mesh) s d) .previous
 
 -- a lone face, and the same split
 unfoldable pub loneQuad : String
-loneQuad = "v 0 0 0\nv 0 0 0\nv 0 0 0\nv 0 0 0\nf 5 0 1 2 3\n"
+loneQuad = "v 0 0 0\nv 1 0 0\nv 2 0 0\nv 3 0 0\nf 5 0 1 2 3\n"
 
 unfoldable pub splitQuad : String
-splitQuad = "v 0 0 0\nv 0 0 0\nv 0 0 0\nv 0 0 0\nf 5 0 1 2 3\ns 0 0 2\n"
+splitQuad = "v 0 0 0\nv 1 0 0\nv 2 0 0\nv 3 0 0\nf 5 0 1 2 3\ns 0 0 2\n"
 
 -- a face whose half borders another face at a vertex, split: the right half is checked, and its lists are taken, before the left is in
 unfoldable pub splitBeside : String
-splitBeside = "v 0 0 0\nv 0 0 0\nv 0 0 0\nv 0 0 0\nv 0 0 0\nv 0 0 0\nf 0 3 0 4\nf 0 1 5 0 2\ns 1 1 0\n"
+splitBeside = "v 0 0 0\nv 1 0 0\nv 2 0 0\nv 3 0 0\nv 4 0 0\nv 5 0 0\nf 0 3 0 4\nf 0 1 5 0 2\ns 1 1 0\n"
 
 -- each starred corner, in its order; and last what they leave open, the right half of a split checked before the left is in
 unfoldable pub starred : List (List ℕ)
@@ -105,10 +105,10 @@ starred =
 
 -- a triangle removed; a triangle that fills its tables of 3 vertices, 3 edges and 1 face; a mesh that an arc extrude would break
 unfoldable pub removed : String
-removed = "v 0 0 0\nv 0 0 0\nv 0 0 0\nf 9 0 1 2\nr 0\n"
+removed = "v 0 0 0\nv 1 0 0\nv 2 0 0\nf 9 0 1 2\nr 0\n"
 
 unfoldable pub full : Desk
-full = afterText (desk 3 3 1) (bytes "v 0 0 0\nv 0 0 0\nv 0 0 0\nf 9 0 1 2\n")
+full = afterText (desk 3 3 1) (bytes "v 0 0 0\nv 1 0 0\nv 2 0 0\nf 9 0 1 2\n")
 
 unfoldable pub brittle : String
 brittle = "v 0 0 0\nv 4 0 0\nv 4 4 0\nv 0 4 0\nf 7 0 1 2\nf 7 0 2 3\np 1 1 3 0\n"
@@ -138,4 +138,29 @@ further =
     ∷ ask six "x 2 0 0 1"
     ∷ ask cramped "v 0 0 0"
     ∷ ask (desk 8 12 5) "v 0 0 1000001"
+    ∷ []
+
+-- document 02's L6: three corners, of which the first and second, the last and first, or none are in one spot; and a corner in one spot with another
+-- beside a face, or before a next that leads back
+unfoldable pub firstTwo : String
+firstTwo = "v 0 0 0\nv 0 0 0\nv 2 0 0\n"
+
+unfoldable pub lastAndFirst : String
+lastAndFirst = "v 0 0 0\nv 1 0 0\nv 0 0 0\n"
+
+unfoldable pub oneAbove : String
+oneAbove = "v 0 0 0\nv 0 0 1\nv 2 0 0\n"
+
+unfoldable pub besideFace : String
+besideFace = "v 0 0 0\nv 4 0 0\nv 4 4 0\nv 4 4 0\nf 7 0 1 2\n"
+
+-- 13 for neighbours, across the end too; not if a coordinate differs; after 4; before an arc with a face, and before one that leads back
+unfoldable pub spots : List (List ℕ)
+spots =
+    ask (after firstTwo) "f 7 0 1 2"
+    ∷ ask (after lastAndFirst) "f 7 0 1 2"
+    ∷ ask (after oneAbove) "f 7 0 1 2"
+    ∷ ask (after firstTwo) "f 7 0 1 9"
+    ∷ ask (after besideFace) "f 7 1 2 3"
+    ∷ ask (after besideFace) "f 7 1 0 3 2"
     ∷ []

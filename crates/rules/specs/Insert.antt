@@ -6,9 +6,10 @@ use lib.ListN.{length, getD, set}
 use lib.Dec.{eqb, ltb}
 use Rattle.rules.specs.declared.Answer.{Answer}
 use Rattle.rules.specs.declared.Answer.the-variants.{Key, Done, Refused}
-use Rattle.rules.specs.declared.Refusal.the-variants.{TopologyMalformed, TopologyNotFound, TopologyConflict}
+use Rattle.rules.specs.declared.Refusal.the-variants.{TopologyMalformed, TopologyNotFound, TopologyConflict, SamePlace}
 use Rattle.rules.specs.Table.{Table, cell, put, putRow, freeRow, someBelow, upTo, after, orElse, has, distinct}
 use Rattle.rules.specs.Mesh.{Mesh, mesh, dest, next, previous, face, opposite, findArc, faceKind, nextKey, oneUp, counted}
+use Rattle.rules.specs.Point.{positionAt, samePlace}
 use Rattle.rules.specs.Link.{connect, setFace, outgoing, getOrInsertEdge}
 use Rattle.rules.specs.Step.{Step, step, checked}
 
@@ -21,6 +22,14 @@ arcAt m per i = findArc m (getD per i 0) (getD per (after (length per) i) 0)
 -- fewer than three keys, or duplicates
 unfoldable pub malformed : List ℕ → Bool
 malformed keys = ltb (length keys) 3 || not (distinct keys)
+
+-- a key and the one after it at equal positions
+unfoldable pub inOneSpot : Mesh → List ℕ → ℕ → Bool
+inOneSpot m per i = samePlace (positionAt (m .positions) (getD per i 0)) (positionAt (m .positions) (getD per (after (length per) i) 0))
+
+-- some pair of the perimeter, the last and first too
+unfoldable pub hasHair : Mesh → List ℕ → Bool
+hasHair m per = someBelow (inOneSpot m per) (length per)
 
 -- an existing arc with a face
 unfoldable pub hasFace : Mesh → List ℕ → ℕ → Bool
@@ -35,12 +44,14 @@ leadsBack m per i =
 unfoldable pub conflict : Mesh → List ℕ → Bool
 conflict m per = someBelow (λ i. hasFace m per i || leadsBack m per i) (length per)
 
--- 3 before any lookup; unknown vertex 4; then perimeter pairs in order, 5. What names the vertices is a list of keys or of links
+-- 3 before any lookup; unknown vertex 4; a key and the one after it in one spot 13; then perimeter pairs in order, 5. What names the vertices is a
+-- list of keys or of links
 unfoldable pub insertChecks : Mesh → List ℕ → List ℕ → Answer
 insertChecks m names per =
     cond (malformed names) (Refused TopologyMalformed)
     (cond (has per 0) (Refused TopologyNotFound)
-    (cond (conflict m per) (Refused TopologyConflict) Done))
+    (cond (hasHair m per) (Refused SamePlace)
+    (cond (conflict m per) (Refused TopologyConflict) Done)))
 
 -- ---- the insert
 

@@ -3,7 +3,7 @@ use Prim.Native.Nat.{ℕ, _-_, _/_, _%_, _^_}
 use mathlib.Core.Bool.{Bool, true, false, not, _&&_, _||_, cond}
 use mathlib.Core.List.{List, [], _∷_}
 use lib.ListN.{length, getD}
-use lib.Ieee.{Float, nan, binary64, toBits, ofBits, add, sub, mul}
+use lib.Ieee.{Float, nan, binary64, toBits, ofBits, add, sub, mul, eq}
 use lib.Dec.{eqb, ltb}
 use Rattle.rules.specs.declared.Position.{Position}
 use Rattle.rules.specs.declared.Move.{Move}
@@ -42,6 +42,10 @@ zeroPosition = position zeroFloat zeroFloat zeroFloat
 
 unfoldable pub positionAt : List (List Float) → ℕ → Position
 positionAt ps v = cond (not (eqb v 0) && ltb (v - 1) (length ps)) (positionOf (getD ps (v - 1) [])) zeroPosition
+
+-- two positions in one spot: all three coordinates equal as floats, so that -0 equals 0
+unfoldable pub samePlace : Position → Position → Bool
+samePlace p q = eq (p .x) (q .x) && (eq (p .y) (q .y) && eq (p .z) (q .z))
 
 unfoldable pub finitePosition : Position → Bool
 finitePosition p = finiteNumber (p .x) && (finiteNumber (p .y) && finiteNumber (p .z))

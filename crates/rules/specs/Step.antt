@@ -2,7 +2,7 @@
 use Prim.Native.Nat.{ℕ}
 use mathlib.Core.Bool.{Bool, true, false, cond}
 use Rattle.rules.specs.declared.Refusal.{Refusal}
-use Rattle.rules.specs.declared.Refusal.the-variants.{Tables, Argument, TopologyMalformed, TopologyNotFound, TopologyConflict, ArityNonUniform, NoRoom, WouldBreak}
+use Rattle.rules.specs.declared.Refusal.the-variants.{Tables, Argument, TopologyMalformed, TopologyNotFound, TopologyConflict, ArityNonUniform, NoRoom, WouldBreak, SamePlace}
 use Rattle.rules.specs.declared.Answer.{Answer}
 use Rattle.rules.specs.declared.Answer.the-variants.{Key, Arc, Mark, Arity, Done, Refused}
 use Rattle.rules.specs.declared.Reply.{Reply}
@@ -10,7 +10,7 @@ use Rattle.rules.specs.Mesh.{Mesh}
 
 -- ---- answers
 
--- document 01's number for each refusal
+-- document 01's number for each refusal, and document 02's
 unfoldable pub numberOf : Refusal → ℕ
 numberOf Tables = 1
 numberOf Argument = 2
@@ -20,6 +20,7 @@ numberOf TopologyConflict = 5
 numberOf ArityNonUniform = 6
 numberOf NoRoom = 7
 numberOf WouldBreak = 8
+numberOf SamePlace = 13
 
 -- a reply: number, key, arc (source, destination), mark, arity
 abbrev pub reply : ℕ → ℕ → ℕ → ℕ → ℕ → ℕ → Reply

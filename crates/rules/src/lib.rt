@@ -45,7 +45,7 @@ pub enum Move {
     },
 }
 
-// Why a call is refused: document 01's answers 1 to 8, by their names.
+// Why a call is refused: document 01's answers 1 to 8 and document 02's 13, by their names.
 pub enum Refusal {
     Tables,
     Argument,
@@ -55,6 +55,7 @@ pub enum Refusal {
     ArityNonUniform,
     NoRoom,
     WouldBreak,
+    SamePlace,
 }
 
 // What a call answers: a key, an arc by its two vertex keys, a mark, an arity, done with nothing to tell, or a refusal.

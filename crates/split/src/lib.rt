@@ -14,6 +14,7 @@ use rules::ArcRow;
 use rules::EdgeRow;
 use rules::FaceRow;
 use rules::Links;
+use rules::PositionRow;
 use rules::VertexRow;
 use tables::answers;
 ghost use mathlib.Core.Path.{_≡_};
@@ -89,6 +90,7 @@ fn halves_in(
 
 // The checks of a half, whose arcs are looked up in the list.
 fn half_checks(
+    positions: &[PositionRow],
     arcs: &[ArcRow],
     half: Links,
     seen: &[bool; MARKS],
@@ -97,17 +99,18 @@ fn half_checks(
 ) -> Answer
     requires { ⌜ Near (now arcs) (now seen) (now near) by ⌝ }
     ensures { λ r. ⌜
-        ((vs : Table) (ps : List (List Float)) (es fs : Table) (ks : List ℕ) →
-        r ≡ insertChecks (mesh vs ps (now (arcs .entry)) es fs ks) (listOf half) (listOf half))
+        ((vs es fs : Table) (ks : List ℕ) →
+        r ≡ insertChecks (mesh vs (now (positions .entry)) (now (arcs .entry)) es fs ks) (listOf half) (listOf half))
         ⌝ }
 {
     lists::known_few(half);
     let found = pairs::near::perimeter_arcs_near(arcs, half, seen, near, by);
-    checks::insert::insert_checks_by(arcs, found, half, half)
+    checks::insert::insert_checks_by(positions, arcs, found, half, half)
 }
 
 pub fn split_work(
     vertices: &mut [VertexRow],
+    positions: &[PositionRow],
     arcs: &mut [ArcRow],
     edges: &mut [EdgeRow],
     faces: &mut [FaceRow],
@@ -117,9 +120,8 @@ pub fn split_work(
     d: u32,
 ) -> Answer
     ensures { λ r. ⌜
-        ((p : List (List Float)) →
-        step (meshAfter vertices (unlent p) arcs edges faces counters) r
-        ≡ splitWorkBy searching (meshBefore vertices (unlent p) arcs edges faces counters) f s d)
+        (step (meshAfter vertices positions arcs edges faces counters) r
+        ≡ splitWorkBy searching (meshBefore vertices positions arcs edges faces counters) f s d)
         ⌝ }
 {
     let left = checks::split::half(arcs, faces, f, s, d);
@@ -130,11 +132,11 @@ pub fn split_work(
     let mut links = [0u32; NEAR];
     let around = near::near_edit(&mut seen, &mut links, arcs, edges, faces, left, right, 1);
     let by = around.by;
-    let check = half_checks(arcs, left, &seen, &links, by);
+    let check = half_checks(positions, arcs, left, &seen, &links, by);
     if !answers::accepted(check) {
         return check;
     }
-    let other = half_checks(arcs, right, &seen, &links, by);
+    let other = half_checks(positions, arcs, right, &seen, &links, by);
     if !answers::accepted(other) {
         return other;
     }

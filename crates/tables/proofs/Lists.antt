@@ -57,11 +57,6 @@ module _ {A : Type 0} where
 
   -- ---- what a copy leaves, for its callers
 
-  -- a source that is as long as the target, or shorter: it stands whole at the front
-  pub over-front : (s d : List A) → length s ≤ length d → over s d ≡ s ++ drop (length s) d
-  unfolding over
-  over-front s d h = rw (take-all (length d) s h)
-
   -- a source that is as long as the target, or longer: its first rows are the target
   pub over-back : (s d : List A) → length d ≤ length s → over s d ≡ take (length d) s
   unfolding over
@@ -69,17 +64,6 @@ module _ {A : Type 0} where
 
   pub over-same : (s d : List A) → length s ≡ length d → over s d ≡ s
   over-same s d e = over-back s d (omega arith) ∙ take-all (length d) s (omega arith)
-
-  -- as long as the target was
-  pub over-length : (s d : List A) → length (over s d) ≡ length d
-  unfolding over
-  over-length s d = simp (length-append, length-take, length-drop) (omega arith)
-
-  -- there and back: what was copied into a longer table comes back whole
-  pub over-again : (s d : List A) → length s ≤ length d → over (over s d) s ≡ s
-  over-again s d h =
-      let l : length s ≤ length (over s d) = omega (arith, over-length s d) in
-      over-back (over s d) s l ∙ rw (over-front s d h) (take-at s (drop (length s) d) (length s) refl)
 
   -- what stands there already need not be put there
   pub fill-same : (n : ℕ) (v z : A) (d : List A) → n ≤ length d → ((k : ℕ) → k < n → getD d k z ≡ v) → d ≡ fill v n d

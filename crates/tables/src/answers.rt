@@ -20,6 +20,7 @@ pub fn number_of(r: Refusal) -> u32
         Refusal::ArityNonUniform => 6,
         Refusal::NoRoom => 7,
         Refusal::WouldBreak => 8,
+        Refusal::SamePlace => 13,
     }
 }
 

@@ -7,7 +7,7 @@ use rules::Position;
 use rules::PositionRow;
 ghost use mathlib.Core.Path.{_≡_};
 ghost use lib.Ieee.Scale as Scale;
-ghost use Rattle.rules.specs.Table.{every, putRow};
+ghost use Rattle.rules.specs.Table.{putRow};
 ghost use Rattle.rules.specs.Point as Point;
 
 // ---- one number
@@ -46,6 +46,19 @@ pub fn finite_position(p: Position) -> bool
         return false;
     }
     finite(p.z)
+}
+
+// Whether two positions are in one spot: all three coordinates equal as floats, so that -0 equals 0.
+pub fn same_place(p: Position, q: Position) -> bool
+    ensures { λ r. ⌜ r ≡ Point.samePlace p q ⌝ }
+{
+    if p.x != q.x {
+        return false;
+    }
+    if p.y != q.y {
+        return false;
+    }
+    p.z == q.z
 }
 
 // Whether the numbers that a move gives are finite.
@@ -129,23 +142,4 @@ pub fn put_position(ps: &mut [PositionRow], v: u32, p: Position)
         return;
     }
     ps[i] = [p.x, p.y, p.z];
-}
-
-// Whether every coordinate of the table is finite.
-pub fn finite_rows(ps: &[PositionRow]) -> bool
-    ensures { λ r. ⌜ r ≡ every Point.finiteRow (now (ps .entry)) ⌝ }
-{
-    let mut i = 0;
-    while i < ps.len() {
-        let p = Position {
-            x: ps[i][0],
-            y: ps[i][1],
-            z: ps[i][2],
-        };
-        if !finite_position(p) {
-            return false;
-        }
-        i += 1;
-    }
-    true
 }

@@ -205,7 +205,7 @@ impl Case {
             }
             after = Records::from_tables(&lending.tables, lending.counters, self.shift);
             script.push_str(&format!("{line}\n"));
-            if answer.number == 7 {
+            if [7, 13].contains(&answer.number) {
                 script.push_str(&format!("load\n{}", after.dump()));
             }
             let full = free[2] == 0 && (3..=6).contains(&answer.number);
@@ -238,9 +238,9 @@ impl Case {
             if wanted.as_ref() != Ok(&made.answer) {
                 return differs(format!("{}\nthe library: {:?}\nwanted: {wanted:?}\nthe oracle: {}", made.line, made.answer, said.text));
             }
-            if made.answer.number == 7 {
-                let accepted = said.refusal().is_none();
-                counts.note(if accepted { "7 where the oracle accepts" } else { "7 where the oracle refuses in mid-edit" });
+            if [7, 13].contains(&made.answer.number) {
+                let rust = if said.refusal().is_none() { "accepts" } else { "refuses" };
+                counts.note(&format!("{} where the oracle {rust}", made.answer.number));
                 said = told.next().expect("the mesh loaded again");
                 if said.text != "ok" {
                     return differs(format!("the oracle can't load the mesh again: {}", said.text));

@@ -19,6 +19,8 @@ const LETTERS: [(char, &str); 13] = [
     ('c', "check"),
 ];
 
+const NUMBERS: [u32; 10] = [0, 1, 2, 3, 4, 5, 6, 7, 8, 13];
+
 #[derive(Clone, Default)]
 pub struct Counts {
     answers: BTreeMap<(char, u32), u64>,
@@ -55,14 +57,14 @@ impl Counts {
 
 impl fmt::Display for Counts {
     fn fmt(&self, f: &mut fmt::Formatter<'_>) -> fmt::Result {
-        writeln!(f, "| {:<20} |{}", "call", (0..=8).map(|n| format!(" {n:>7} |")).collect::<String>())?;
+        writeln!(f, "| {:<20} |{}", "call", NUMBERS.iter().map(|n| format!(" {n:>7} |")).collect::<String>())?;
         for (letter, name) in LETTERS {
-            let row: Vec<u64> = (0..=8).map(|n| self.answers.get(&(letter, n)).copied().unwrap_or(0)).collect();
+            let row = NUMBERS.map(|n| self.answers.get(&(letter, n)).copied().unwrap_or(0));
             if row.iter().any(|n| *n > 0) {
                 writeln!(f, "| {name:<20} |{}", row.iter().map(|n| format!(" {n:>7} |")).collect::<String>())?;
             }
         }
-        writeln!(f, "| {:<20} |{}", "all", (0..=8).map(|n| format!(" {:>7} |", self.with(n))).collect::<String>())?;
+        writeln!(f, "| {:<20} |{}", "all", NUMBERS.iter().map(|n| format!(" {:>7} |", self.with(*n))).collect::<String>())?;
         for (note, n) in &self.notes {
             writeln!(f, "{note}: {n}")?;
         }

@@ -76,8 +76,27 @@ pub fn point(rng: &mut Rng) -> [f64; 3] {
     std::array::from_fn(|_| coordinate(rng))
 }
 
+/// A position: mostly apart from all others, at times that of one of these, or that of the middle of all, where 0 and -0 meet.
+fn spot(rng: &mut Rng, places: &[[f64; 3]]) -> [f64; 3] {
+    match rng.below(100) {
+        0..=2 if !places.is_empty() => rng.pick(places).map(|x| if x == 0.0 { zero(rng) } else { x }),
+        3 => std::array::from_fn(|_| zero(rng)),
+        _ => point(rng),
+    }
+}
+
+fn zero(rng: &mut Rng) -> f64 {
+    rng.pick(&[0.0, 0.0, -0.0])
+}
+
+/// A shift, at times by nothing.
+fn shift(rng: &mut Rng) -> Move {
+    Move::Shift(if rng.chance(0.03) { std::array::from_fn(|_| zero(rng)) } else { point(rng) })
+}
+
+/// A scale, at times one that leaves everything where it is, or brings it together.
 fn scale(rng: &mut Rng) -> Move {
-    Move::Scale { centre: point(rng), factor: coordinate(rng) }
+    Move::Scale { centre: point(rng), factor: if rng.chance(0.06) { rng.pick(&[1.0, 0.0]) } else { coordinate(rng) } }
 }
 
 /// The mesh as the generator looks at it.
@@ -114,6 +133,23 @@ impl View<'_> {
         } else {
             self.unknown(rng, self.mesh.counters[0])
         }
+    }
+
+    /// A new vertex, at times where another one stands.
+    fn new_vertex(&self, rng: &mut Rng) -> Line {
+        let mut places = vec![];
+        if !self.vertices.is_empty() {
+            places.push(self.mesh.position(rng.pick(&self.vertices)).unwrap());
+        }
+        Line::Vertex(spot(rng, &places))
+    }
+
+    /// A poke, at times at a corner.
+    fn poke(&self, rng: &mut Rng) -> Line {
+        let face = self.face(rng);
+        let corners = self.mesh.ring_vertices(face).unwrap_or_default();
+        let places: Vec<[f64; 3]> = corners.into_iter().map(|key| self.mesh.position(key).unwrap()).collect();
+        Line::Poke(face, spot(rng, &places))
     }
 
     fn face(&self, rng: &mut Rng) -> u32 {
@@ -242,23 +278,23 @@ fn letter(rng: &mut Rng, view: &View, profile: &Profile) -> char {
 pub fn random_line(rng: &mut Rng, mesh: &Records, profile: &Profile) -> Line {
     let view = View::of(mesh);
     if view.vertices.len() < profile.least && rng.chance(0.9) {
-        return Line::Vertex(point(rng));
+        return view.new_vertex(rng);
     }
     let letter = letter(rng, &view, profile);
     match letter {
-        'v' => Line::Vertex(point(rng)),
+        'v' => view.new_vertex(rng),
         'r' => Line::Remove(view.face(rng)),
         's' => view.split(rng),
-        'p' => Line::Poke(view.face(rng), point(rng)),
+        'p' => view.poke(rng),
         'b' => view.bridge(rng),
         'j' => {
             let (first, second) = (view.arc(rng, 0.8), view.arc(rng, 0.8));
             Line::Join(first.0, first.1, second.0, second.1)
         }
-        'x' => Line::Extrude(view.face(rng), Move::Shift(point(rng))),
+        'x' => Line::Extrude(view.face(rng), shift(rng)),
         'X' => Line::Extrude(view.face(rng), scale(rng)),
         'a' | 'A' => {
-            let by = if letter == 'a' { Move::Shift(point(rng)) } else { scale(rng) };
+            let by = if letter == 'a' { shift(rng) } else { scale(rng) };
             let arc = view.arc(rng, 0.9);
             Line::ArcExtrude(arc.0, arc.1, by)
         }
@@ -410,7 +446,9 @@ pub fn polygons(rng: &mut Rng, arities: &[usize]) -> Records {
             let (next, previous) = (Some(opposite(before)), Some(opposite(after)));
             mesh.arcs.insert(outer, ArcRecord { next, previous, face: None, edge: e + i });
             mesh.edges.insert(e + i, inner);
-            let position = point(rng).map(|x| if x.is_finite() { x } else { 0.25 }.to_bits());
+            // Sound tables may have neighbours in one spot: no edit puts them there, a caller can.
+            let before = mesh.vertices.get(&at(i + n - 1)).filter(|_| rng.chance(0.002)).map(|record| record.position);
+            let position = before.unwrap_or_else(|| point(rng).map(|x| if x.is_finite() { x } else { 0.25 }.to_bits()));
             mesh.vertices.insert(at(i), VertexRecord { position, leading: Some(inner) });
         }
         mesh.faces.insert(f, FaceRecord { arc: (at(0), at(1)), mark: rng.below(10) as u32 });
@@ -435,7 +473,7 @@ pub fn filled(rng: &mut Rng, sizes: Sizes, free: Sizes, arities: &[usize]) -> Re
     let mut mesh = polygons(rng, &list);
     for _ in 0..vertices {
         let key = mesh.counters[0];
-        mesh.vertices.insert(key, VertexRecord { position: [0x3ff0_0000_0000_0000; 3], leading: None });
+        mesh.vertices.insert(key, VertexRecord { position: [f64::from(key), 1.0, 1.0].map(f64::to_bits), leading: None });
         mesh.counters[0] += 1;
     }
     mesh

@@ -16,6 +16,7 @@ mod records;
 mod rng;
 mod scripts;
 mod sound;
+mod spots;
 mod stack;
 
 use counts::Counts;

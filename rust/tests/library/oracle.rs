@@ -47,9 +47,17 @@ pub fn program() -> String {
 
 /// Runs a script: what was told of each line, with the records after each (or after the last alone).
 pub fn ask(script: String, every_record: bool) -> Vec<Told> {
-    let dump = if every_record { "--dump" } else { "--dump-end" };
+    run(script, &["--sound", "--names", if every_record { "--dump" } else { "--dump-end" }])
+}
+
+/// Runs a script whose lines are the steps of one edit: no mesh between them is called unsound and taken back.
+pub fn ask_steps(script: String) -> Vec<Told> {
+    run(script, &["--names"])
+}
+
+fn run(script: String, flags: &[&str]) -> Vec<Told> {
     let mut child = Command::new(program())
-        .args(["--sound", "--names", dump])
+        .args(flags)
         .stdin(Stdio::piped())
         .stdout(Stdio::piped())
         .spawn()

@@ -27,13 +27,14 @@ fn case(rng: &mut Rng, sizes: Sizes) -> Case {
 
 #[test]
 fn from_an_empty_mesh() {
-    repeat("from an empty mesh", 4.0, |rng, counts| {
+    let counts = repeat("from an empty mesh", 4.0, |rng, counts| {
         let sizes = rng.pick(&[[64, 128, 64], [64, 128, 64], [300, 600, 300]]);
         let mut case = case(rng, sizes);
         let profile = rng.pick(&PROFILES);
         case.grow(rng, &profile, 40);
         case.hold(counts);
     });
+    counts.must_have_met("13", counts.with(13) > 0);
 }
 
 #[test]

@@ -34,7 +34,7 @@ fn every_call(mut mesh: Mesh) {
 /// An edit at a vertex with more seams than the library lists near an edit: it tests all tables once more.
 fn edit_at_many_seams(mut mesh: Mesh) {
     let rim: Vec<VertexKey> = (0..1032).map(|i| mesh.vertex_insert([f64::from(i), 0.0, 0.0]).unwrap()).collect();
-    let middle = mesh.vertex_insert([0.0; 3]).unwrap();
+    let middle = mesh.vertex_insert([0.0, 1.0, 0.0]).unwrap();
     let panels: Vec<FaceKey> = rim.windows(2).map(|two| mesh.face_insert(1, &[middle, two[0], two[1]]).unwrap()).collect();
     mesh.face_poke(panels[500], [1.0, 2.0, 3.0]).unwrap();
 }

@@ -19,50 +19,49 @@ use Rattle.bridge.proofs.pairs_in.Statement.{statement}
 use Rattle.bridge.proofs.pairs_in.Tie as tie
 
 abbrev Inv-loop : tie.InvT-loop
-Inv-loop vertices₀ arcs₀ edges₀ faces₀ counters₀ seen near around forth back n i₀ vertices arcs edges faces counters i =
+Inv-loop vertices₀ positions arcs₀ edges₀ faces₀ counters₀ seen near around forth back n i₀ vertices arcs edges faces counters i =
     (i ≤ n) × (SameSizes (length vertices) (length arcs) (length edges) (length faces) (length vertices₀) (length arcs₀) (length edges₀) (length faces₀)
-    × ((p : List (List Float)) → eachIn (λ i a. arcBridgeBy searching a (getD (listOf forth) i 0) (getD (reverse (listOf back)) i 0)) i (mesh vertices₀ p arcs₀ edges₀ faces₀ counters₀) ≡ step (mesh vertices p arcs edges faces counters) Done))
+    × (eachIn (λ i a. arcBridgeBy searching a (getD (listOf forth) i 0) (getD (reverse (listOf back)) i 0)) i (mesh vertices₀ positions arcs₀ edges₀ faces₀ counters₀) ≡ step (mesh vertices positions arcs edges faces counters) Done))
 
 abbrev μ-loop : tie.MeasureT-loop
-μ-loop vertices₀ arcs₀ edges₀ faces₀ counters₀ seen near around forth back n i₀ vertices arcs edges faces counters i = n - i
+μ-loop vertices₀ positions arcs₀ edges₀ faces₀ counters₀ seen near around forth back n i₀ vertices arcs edges faces counters i = n - i
 
 loop-holds : tie.Need-loop-holds Inv-loop μ-loop
 loop-holds c =
     let a = c .before .args in
-    (search needs, (record { ofv = refl; ofa = refl; ofe = refl; off = refl }, λ p. each-none (λ i n. arcBridgeBy searching n (getD (listOf (a .forth)) i 0) (getD (reverse (listOf (a .back))) i 0)) (mesh (a .vertices .now) p (a .arcs .now) (a .edges .now) (a .faces .now) (a .counters .now))))
+    (search needs, (record { ofv = refl; ofa = refl; ofe = refl; off = refl }, each-none (λ i n. arcBridgeBy searching n (getD (listOf (a .forth)) i 0) (getD (reverse (listOf (a .back))) i 0)) (mesh (a .vertices .now) (a .positions .now) (a .arcs .now) (a .edges .now) (a .faces .now) (a .counters .now))))
 
 arc-bridge-requires : tie.Need-arc-bridge-requires Inv-loop μ-loop
 arc-bridge-requires c κs =
     let s = c .before .before .before .before .before .before .before .before .before .before in
     let a = s .args in
     let l = c .before .before .before .before .before .before .before .before .loop in
-    let m₀ : Mesh = mesh (a .vertices .now) [] (a .arcs .now) (a .edges .now) (a .faces .now) (a .counters .now) in
-    let m : Mesh = mesh (l .vertices) [] (l .arcs) (l .edges) (l .faces) (l .counters) in
-    known-each (λ i n. arcBridgeBy searching n (getD (listOf (a .forth)) i 0) (getD (reverse (listOf (a .back))) i 0)) (λ i n. filled-bridge n (getD (listOf (a .forth)) i 0) (getD (reverse (listOf (a .back))) i 0)) m₀ (l .i) m (a .seen .now) (a .near .now) (a .around) (l .inv .1 .1 []) (s .pre)
+    let m₀ : Mesh = mesh (a .vertices .now) (a .positions .now) (a .arcs .now) (a .edges .now) (a .faces .now) (a .counters .now) in
+    let m : Mesh = mesh (l .vertices) (a .positions .now) (l .arcs) (l .edges) (l .faces) (l .counters) in
+    known-each (λ i n. arcBridgeBy searching n (getD (listOf (a .forth)) i 0) (getD (reverse (listOf (a .back))) i 0)) (λ i n. filled-bridge n (getD (listOf (a .forth)) i 0) (getD (reverse (listOf (a .back))) i 0)) m₀ (l .i) m (a .seen .now) (a .near .now) (a .around) (l .inv .1 .1) (s .pre)
 
 same-length : tie.Need-same-length Inv-loop μ-loop
 same-length c = c .before .before .before .before .before .before .arc-bridge .kept .0 ∙ c .before .before .before .before .before .before .before .before .before .before .before .before .before .before .before .loop .inv .1 .0 .ofv
 
 same-length-2 : tie.Need-same-length-2 Inv-loop μ-loop
-same-length-2 c = c .before .before .before .before .before .before .arc-bridge .kept .1 .0 ∙ c .before .before .before .before .before .before .before .before .before .before .before .before .before .before .before .loop .inv .1 .0 .ofa
+same-length-2 c = c .before .before .before .before .before .before .arc-bridge .kept .1 .1 .0 ∙ c .before .before .before .before .before .before .before .before .before .before .before .before .before .before .before .loop .inv .1 .0 .ofa
 
 same-length-3 : tie.Need-same-length-3 Inv-loop μ-loop
-same-length-3 c = c .before .before .before .before .before .before .arc-bridge .kept .1 .1 .0 ∙ c .before .before .before .before .before .before .before .before .before .before .before .before .before .before .before .loop .inv .1 .0 .ofe
+same-length-3 c = c .before .before .before .before .before .before .arc-bridge .kept .1 .1 .1 .0 ∙ c .before .before .before .before .before .before .before .before .before .before .before .before .before .before .before .loop .inv .1 .0 .ofe
 
 same-length-4 : tie.Need-same-length-4 Inv-loop μ-loop
-same-length-4 c = c .before .before .before .before .before .before .arc-bridge .kept .1 .1 .1 .0 ∙ c .before .before .before .before .before .before .before .before .before .before .before .before .before .before .before .loop .inv .1 .0 .off
+same-length-4 c = c .before .before .before .before .before .before .arc-bridge .kept .1 .1 .1 .1 .0 ∙ c .before .before .before .before .before .before .before .before .before .before .before .before .before .before .before .loop .inv .1 .0 .off
 
 returns : tie.Need-returns Inv-loop μ-loop
 returns c =
-    λ p.
     let a = c .before .before .before .before .before .before .before .before .before .before .before .before .before .before .before .before .before .args in
     let l = c .before .before .before .before .before .before .before .before .before .before .before .before .before .before .before .loop in
     let g = c .before .before .before .before .before .before .arc-bridge in
-    let m₀ : Mesh = mesh (a .vertices .now) p (a .arcs .now) (a .edges .now) (a .faces .now) (a .counters .now) in
-    let m : Mesh = mesh (l .vertices) p (l .arcs) (l .edges) (l .faces) (l .counters) in
-    let m′ : Mesh = mesh (g .last .0) p (g .last .1 .0) (g .last .1 .1 .0) (g .last .1 .1 .1 .0) (g .last .1 .1 .1 .1 .0) in
-    each-stops (λ i n. arcBridgeBy searching n (getD (listOf (a .forth)) i 0) (getD (reverse (listOf (a .back))) i 0)) (l .i) (length (listOf (a .forth))) m₀ m m′ (g .result) (omega (arith, c .before .before .before .before .before .before .before .before .before .before .before .before .before .before .before .before .size .ensures, c .before .before .before .before .before .before .before .before .before .before .before .before .before .before .loop-test .taken)) (l .inv .1 .1 p)
-    (g .ensures p ∙ (λ j. arcBridgeBy searching m (c .before .before .before .before .before .before .before .before .before .before .before .before .before .item .ensures j) (c .before .before .before .before .before .before .before .before .before .before .before .before .item-from-end .ensures j))) (sym (c .before .accepted .ensures) ∙ not-true _ (c .if1 .taken))
+    let m₀ : Mesh = mesh (a .vertices .now) (a .positions .now) (a .arcs .now) (a .edges .now) (a .faces .now) (a .counters .now) in
+    let m : Mesh = mesh (l .vertices) (a .positions .now) (l .arcs) (l .edges) (l .faces) (l .counters) in
+    let m′ : Mesh = mesh (g .last .0) (a .positions .now) (g .last .1 .1 .0) (g .last .1 .1 .1 .0) (g .last .1 .1 .1 .1 .0) (g .last .1 .1 .1 .1 .1 .0) in
+    each-stops (λ i n. arcBridgeBy searching n (getD (listOf (a .forth)) i 0) (getD (reverse (listOf (a .back))) i 0)) (l .i) (length (listOf (a .forth))) m₀ m m′ (g .result) (omega (arith, c .before .before .before .before .before .before .before .before .before .before .before .before .before .before .before .before .size .ensures, c .before .before .before .before .before .before .before .before .before .before .before .before .before .before .loop-test .taken)) (l .inv .1 .1)
+    (g .ensures ∙ (λ j. arcBridgeBy searching m (c .before .before .before .before .before .before .before .before .before .before .before .before .before .item .ensures j) (c .before .before .before .before .before .before .before .before .before .before .before .before .item-from-end .ensures j))) (sym (c .before .accepted .ensures) ∙ not-true _ (c .if1 .taken))
 
 loop-again : tie.Need-loop-again Inv-loop μ-loop
 loop-again c =
@@ -72,13 +71,12 @@ loop-again c =
     let k = l .inv .1 .0 in (
       omega (arith, c .before .before .before .before .before .before .before .before .before .before .before .before .before .before .loop-test .taken),
       (
-        record { ofv = g .kept .0 ∙ k .ofv; ofa = g .kept .1 .0 ∙ k .ofa; ofe = g .kept .1 .1 .0 ∙ k .ofe; off = g .kept .1 .1 .1 .0 ∙ k .off },
-        λ p.
-            let m₀ : Mesh = mesh (a .vertices .now) p (a .arcs .now) (a .edges .now) (a .faces .now) (a .counters .now) in
-            let m : Mesh = mesh (l .vertices) p (l .arcs) (l .edges) (l .faces) (l .counters) in
-            let m′ : Mesh = mesh (g .last .0) p (g .last .1 .0) (g .last .1 .1 .0) (g .last .1 .1 .1 .0) (g .last .1 .1 .1 .1 .0) in
-            each-goes (λ i n. arcBridgeBy searching n (getD (listOf (a .forth)) i 0) (getD (reverse (listOf (a .back))) i 0)) (l .i) m₀ m m′ (g .result) (l .inv .1 .1 p)
-            (g .ensures p ∙ (λ j. arcBridgeBy searching m (c .before .before .before .before .before .before .before .before .before .before .before .before .before .item .ensures j) (c .before .before .before .before .before .before .before .before .before .before .before .before .item-from-end .ensures j))) (sym (c .before .accepted .ensures) ∙ not-false _ (c .if1 .left)),
+        record { ofv = g .kept .0 ∙ k .ofv; ofa = g .kept .1 .1 .0 ∙ k .ofa; ofe = g .kept .1 .1 .1 .0 ∙ k .ofe; off = g .kept .1 .1 .1 .1 .0 ∙ k .off },
+        let m₀ : Mesh = mesh (a .vertices .now) (a .positions .now) (a .arcs .now) (a .edges .now) (a .faces .now) (a .counters .now) in
+            let m : Mesh = mesh (l .vertices) (a .positions .now) (l .arcs) (l .edges) (l .faces) (l .counters) in
+            let m′ : Mesh = mesh (g .last .0) (a .positions .now) (g .last .1 .1 .0) (g .last .1 .1 .1 .0) (g .last .1 .1 .1 .1 .0) (g .last .1 .1 .1 .1 .1 .0) in
+            each-goes (λ i n. arcBridgeBy searching n (getD (listOf (a .forth)) i 0) (getD (reverse (listOf (a .back))) i 0)) (l .i) m₀ m m′ (g .result) (l .inv .1 .1)
+            (g .ensures ∙ (λ j. arcBridgeBy searching m (c .before .before .before .before .before .before .before .before .before .before .before .before .before .item .ensures j) (c .before .before .before .before .before .before .before .before .before .before .before .before .item-from-end .ensures j))) (sym (c .before .accepted .ensures) ∙ not-false _ (c .if1 .left)),
       ),
     )
 
@@ -96,10 +94,9 @@ same-length-8 c = c .before .loop .inv .1 .0 .off
 
 returns-2 : tie.Need-returns-2 Inv-loop μ-loop
 returns-2 c =
-    λ p.
     let a = c .before .before .before .args in
     let all : c .before .loop .i ≡ (length (listOf (a .forth))) = omega (arith, c .before .before .size .ensures) in
-    sym (rw all at (c .before .loop .inv .1 .1 p))
+    sym (rw all at (c .before .loop .inv .1 .1))
 
 pub pairs-in-spec : {M : Type 1} → statement M
 pairs-in-spec =

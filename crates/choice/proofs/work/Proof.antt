@@ -62,13 +62,13 @@ same-length-11 c = search needs
 same-length-12 : tie.Need-same-length-12
 same-length-12 c = search needs
 
-returns-4 : tie.Need-returns-4
-returns-4 c =
-    let x = c .before .before .before .before .before .before .before .before .before .before .before .before .before .before .args in
-    c .before .before .before .before .face-split .ensures (x .positions .now) (x .keys .now) ∙ ap (λ (e : Edit). workBy searching (mesh (x .vertices .now) (x .positions .now) (x .arcs .now) (x .edges .now) (x .faces .now) (x .counters .now)) e (x .keys .now)) (sym (c .before .before .before .before .before .before .before .before .before .before .before .edit4 .given .1))
-
 same-length-13 : tie.Need-same-length-13
 same-length-13 c = search needs
+
+returns-4 : tie.Need-returns-4
+returns-4 c =
+    let x = c .before .before .before .before .before .before .before .before .before .before .before .before .before .before .before .args in
+    c .before .before .before .before .face-split .ensures (x .keys .now) ∙ ap (λ (e : Edit). workBy searching (mesh (x .vertices .now) (x .positions .now) (x .arcs .now) (x .edges .now) (x .faces .now) (x .counters .now)) e (x .keys .now)) (sym (c .before .before .before .before .before .before .before .before .before .before .before .before .edit4 .given .1))
 
 same-length-14 : tie.Need-same-length-14
 same-length-14 c = search needs
@@ -82,13 +82,13 @@ same-length-16 c = search needs
 same-length-17 : tie.Need-same-length-17
 same-length-17 c = search needs
 
+same-length-18 : tie.Need-same-length-18
+same-length-18 c = search needs
+
 returns-5 : tie.Need-returns-5
 returns-5 c =
     let x = c .before .before .before .before .before .before .before .before .before .before .before .before .before .before .before .before .args in
     c .before .before .before .before .before .face-poke .ensures (x .keys .now) ∙ ap (λ (e : Edit). workBy searching (mesh (x .vertices .now) (x .positions .now) (x .arcs .now) (x .edges .now) (x .faces .now) (x .counters .now)) e (x .keys .now)) (sym (c .before .before .before .before .before .before .before .before .before .before .before .before .before .edit5 .given .1))
-
-same-length-18 : tie.Need-same-length-18
-same-length-18 c = search needs
 
 same-length-19 : tie.Need-same-length-19
 same-length-19 c = search needs
@@ -99,16 +99,16 @@ same-length-20 c = search needs
 same-length-21 : tie.Need-same-length-21
 same-length-21 c = search needs
 
-returns-6 : tie.Need-returns-6
-returns-6 c =
-    let x = c .before .before .before .before .before .before .before .before .before .before .before .before .before .before .args in
-    c .before .before .before .before .face-bridge .ensures (x .positions .now) (x .keys .now) ∙ ap (λ (e : Edit). workBy searching (mesh (x .vertices .now) (x .positions .now) (x .arcs .now) (x .edges .now) (x .faces .now) (x .counters .now)) e (x .keys .now)) (sym (c .before .before .before .before .before .before .before .before .before .before .before .edit6 .given .1))
-
 same-length-22 : tie.Need-same-length-22
 same-length-22 c = search needs
 
 same-length-23 : tie.Need-same-length-23
 same-length-23 c = search needs
+
+returns-6 : tie.Need-returns-6
+returns-6 c =
+    let x = c .before .before .before .before .before .before .before .before .before .before .before .before .before .before .before .args in
+    c .before .before .before .before .face-bridge .ensures (x .keys .now) ∙ ap (λ (e : Edit). workBy searching (mesh (x .vertices .now) (x .positions .now) (x .arcs .now) (x .edges .now) (x .faces .now) (x .counters .now)) e (x .keys .now)) (sym (c .before .before .before .before .before .before .before .before .before .before .before .before .edit6 .given .1))
 
 same-length-24 : tie.Need-same-length-24
 same-length-24 c = search needs
@@ -119,16 +119,16 @@ same-length-25 c = search needs
 same-length-26 : tie.Need-same-length-26
 same-length-26 c = search needs
 
-returns-7 : tie.Need-returns-7
-returns-7 c =
-    let x = c .before .before .before .before .before .before .before .before .before .before .before .before .before .before .before .before .args in
-    c .before .before .before .before .before .face-extrude .ensures (x .keys .now) ∙ ap (λ (e : Edit). workBy searching (mesh (x .vertices .now) (x .positions .now) (x .arcs .now) (x .edges .now) (x .faces .now) (x .counters .now)) e (x .keys .now)) (sym (c .before .before .before .before .before .before .before .before .before .before .before .before .before .edit7 .given .1))
-
 same-length-27 : tie.Need-same-length-27
 same-length-27 c = search needs
 
 same-length-28 : tie.Need-same-length-28
 same-length-28 c = search needs
+
+returns-7 : tie.Need-returns-7
+returns-7 c =
+    let x = c .before .before .before .before .before .before .before .before .before .before .before .before .before .before .before .before .args in
+    c .before .before .before .before .before .face-extrude .ensures (x .keys .now) ∙ ap (λ (e : Edit). workBy searching (mesh (x .vertices .now) (x .positions .now) (x .arcs .now) (x .edges .now) (x .faces .now) (x .counters .now)) e (x .keys .now)) (sym (c .before .before .before .before .before .before .before .before .before .before .before .before .before .edit7 .given .1))
 
 same-length-29 : tie.Need-same-length-29
 same-length-29 c = search needs
@@ -136,16 +136,16 @@ same-length-29 c = search needs
 same-length-30 : tie.Need-same-length-30
 same-length-30 c = search needs
 
-returns-8 : tie.Need-returns-8
-returns-8 c =
-    let x = c .before .before .before .before .before .before .before .before .before .before .before .before .before .before .args in
-    c .before .before .before .before .arc-bridge .ensures (x .positions .now) (x .keys .now) ∙ ap (λ (e : Edit). workBy searching (mesh (x .vertices .now) (x .positions .now) (x .arcs .now) (x .edges .now) (x .faces .now) (x .counters .now)) e (x .keys .now)) (sym (c .before .before .before .before .before .before .before .before .before .before .before .edit8 .given .1))
-
 same-length-31 : tie.Need-same-length-31
 same-length-31 c = search needs
 
 same-length-32 : tie.Need-same-length-32
 same-length-32 c = search needs
+
+returns-8 : tie.Need-returns-8
+returns-8 c =
+    let x = c .before .before .before .before .before .before .before .before .before .before .before .before .before .before .args in
+    c .before .before .before .before .arc-bridge .ensures (x .positions .now) (x .keys .now) ∙ ap (λ (e : Edit). workBy searching (mesh (x .vertices .now) (x .positions .now) (x .arcs .now) (x .edges .now) (x .faces .now) (x .counters .now)) e (x .keys .now)) (sym (c .before .before .before .before .before .before .before .before .before .before .before .edit8 .given .1))
 
 same-length-33 : tie.Need-same-length-33
 same-length-33 c = search needs
@@ -155,6 +155,12 @@ same-length-34 c = search needs
 
 same-length-35 : tie.Need-same-length-35
 same-length-35 c = search needs
+
+same-length-36 : tie.Need-same-length-36
+same-length-36 c = search needs
+
+same-length-37 : tie.Need-same-length-37
+same-length-37 c = search needs
 
 returns-9 : tie.Need-returns-9
 returns-9 c =
@@ -198,32 +204,34 @@ work-spec =
     same-length-10
     same-length-11
     same-length-12
-    returns-4
     same-length-13
+    returns-4
     same-length-14
     same-length-15
     same-length-16
     same-length-17
-    returns-5
     same-length-18
+    returns-5
     same-length-19
     same-length-20
     same-length-21
-    returns-6
     same-length-22
     same-length-23
+    returns-6
     same-length-24
     same-length-25
     same-length-26
-    returns-7
     same-length-27
     same-length-28
+    returns-7
     same-length-29
     same-length-30
-    returns-8
     same-length-31
     same-length-32
+    returns-8
     same-length-33
     same-length-34
     same-length-35
+    same-length-36
+    same-length-37
     returns-9)

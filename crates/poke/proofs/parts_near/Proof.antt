@@ -14,16 +14,16 @@ same-length : tie.Need-same-length
 same-length c = c .before .before .before .before .parts-in .kept .0
 
 same-length-2 : tie.Need-same-length-2
-same-length-2 c = c .before .before .before .before .parts-in .kept .1 .0
+same-length-2 c = c .before .before .before .before .parts-in .kept .1 .1 .0
 
 same-length-3 : tie.Need-same-length-3
-same-length-3 c = c .before .before .before .before .parts-in .kept .1 .1 .0
+same-length-3 c = c .before .before .before .before .parts-in .kept .1 .1 .1 .0
 
 same-length-4 : tie.Need-same-length-4
-same-length-4 c = c .before .before .before .before .parts-in .kept .1 .1 .1 .0
+same-length-4 c = c .before .before .before .before .parts-in .kept .1 .1 .1 .1 .0
 
 returns : tie.Need-returns
-returns c = λ p. c .before .before .before .before .parts-in .ensures p
+returns c = c .before .before .before .before .parts-in .ensures
 
 pub parts-near-spec : {M : Type 1} → statement M
 parts-near-spec =

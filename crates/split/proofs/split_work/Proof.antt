@@ -17,12 +17,11 @@ same-length-4 c = c .before .before .before .before .before .before .before .bef
 
 returns : tie.Need-returns
 returns c =
-    λ p.
     let a = c .before .before .before .before .before .before .before .before .before .before .before .before .before .before .before .before .before .before .before .before .before .before .before .before .before .before .before .before .args in
     let d = c .before .before .before .before .before .before .before .before .before .before .before .before .before .before .before .remove-face in
-    let m : Mesh = mesh (a .vertices .now) p (a .arcs .now) (a .edges .now) (a .faces .now) (a .counters .now) in
-    let n : Mesh = mesh (a .vertices .now) p (d .last .0) (a .edges .now) (d .last .1 .0) (a .counters .now) in
-    split-first m n (a .f) (a .s) (a .d) (c .before .before .before .before .before .before .before .before .before .before .before .before .before .before .before .before .before .before .before .before .before .before .before .before .before .half .result) (c .before .before .before .before .before .before .before .before .before .before .before .before .before .before .before .before .before .before .before .before .before .before .half2 .result) (c .before .before .before .before .before .before .before .before .before .before .before .before .before .before .before .before .before .before .before .before .before .before .before .before .before .half .ensures (a .vertices .now) p (a .edges .now) (a .counters .now)) (c .before .before .before .before .before .before .before .before .before .before .before .before .before .before .before .before .before .before .before .before .before .before .half2 .ensures (a .vertices .now) p (a .edges .now) (a .counters .now)) (d .ensures (a .vertices .now) p (a .edges .now) (a .counters .now)) (c .before .before .half-checks .result) (c .before .before .half-checks .ensures (a .vertices .now) p (a .edges .now) (d .last .1 .0) (a .counters .now)) (sym (c .before .accepted .ensures) ∙ not-true _ (c .if1 .taken))
+    let m : Mesh = mesh (a .vertices .now) (a .positions .now) (a .arcs .now) (a .edges .now) (a .faces .now) (a .counters .now) in
+    let n : Mesh = mesh (a .vertices .now) (a .positions .now) (d .last .0) (a .edges .now) (d .last .1 .0) (a .counters .now) in
+    split-first m n (a .f) (a .s) (a .d) (c .before .before .before .before .before .before .before .before .before .before .before .before .before .before .before .before .before .before .before .before .before .before .before .before .before .half .result) (c .before .before .before .before .before .before .before .before .before .before .before .before .before .before .before .before .before .before .before .before .before .before .half2 .result) (c .before .before .before .before .before .before .before .before .before .before .before .before .before .before .before .before .before .before .before .before .before .before .before .before .before .half .ensures (a .vertices .now) (a .positions .now) (a .edges .now) (a .counters .now)) (c .before .before .before .before .before .before .before .before .before .before .before .before .before .before .before .before .before .before .before .before .before .before .half2 .ensures (a .vertices .now) (a .positions .now) (a .edges .now) (a .counters .now)) (d .ensures (a .vertices .now) (a .positions .now) (a .edges .now) (a .counters .now)) (c .before .before .half-checks .result) (c .before .before .half-checks .ensures (a .vertices .now) (a .edges .now) (d .last .1 .0) (a .counters .now)) (sym (c .before .accepted .ensures) ∙ not-true _ (c .if1 .taken))
 
 half-checks-requires-2 : tie.Need-half-checks-requires-2
 half-checks-requires-2 c κs = c .before .before .before .before .before .before .before .before .before .before .near-edit .ensures .listed
@@ -35,12 +34,11 @@ same-length-8 c = c .before .before .before .before .before .before .before .bef
 
 returns-2 : tie.Need-returns-2
 returns-2 c =
-    λ p.
     let a = c .before .before .before .before .before .before .before .before .before .before .before .before .before .before .before .before .before .before .before .before .before .before .before .before .before .before .before .before .before .before .before .before .before .before .args in
     let d = c .before .before .before .before .before .before .before .before .before .before .before .before .before .before .before .before .before .before .before .before .before .remove-face in
-    let m : Mesh = mesh (a .vertices .now) p (a .arcs .now) (a .edges .now) (a .faces .now) (a .counters .now) in
-    let n : Mesh = mesh (a .vertices .now) p (d .last .0) (a .edges .now) (d .last .1 .0) (a .counters .now) in
-    split-second m n (a .f) (a .s) (a .d) (c .before .before .before .before .before .before .before .before .before .before .before .before .before .before .before .before .before .before .before .before .before .before .before .before .before .before .before .before .before .before .before .half .result) (c .before .before .before .before .before .before .before .before .before .before .before .before .before .before .before .before .before .before .before .before .before .before .before .before .before .before .before .before .half2 .result) (c .before .before .before .before .before .before .before .before .before .before .before .before .before .before .before .before .before .before .before .before .before .before .before .before .before .before .before .before .before .before .before .half .ensures (a .vertices .now) p (a .edges .now) (a .counters .now)) (c .before .before .before .before .before .before .before .before .before .before .before .before .before .before .before .before .before .before .before .before .before .before .before .before .before .before .before .before .half2 .ensures (a .vertices .now) p (a .edges .now) (a .counters .now)) (d .ensures (a .vertices .now) p (a .edges .now) (a .counters .now)) (c .before .before .before .before .before .before .before .before .half-checks .result) (c .before .before .before .before .before .before .before .before .half-checks .ensures (a .vertices .now) p (a .edges .now) (d .last .1 .0) (a .counters .now)) (sym (c .before .before .before .before .before .before .before .accepted .ensures) ∙ not-false _ (c .before .before .before .before .before .before .if1 .left)) (c .before .before .half-checks2 .result) (c .before .before .half-checks2 .ensures (a .vertices .now) p (a .edges .now) (d .last .1 .0) (a .counters .now)) (sym (c .before .accepted2 .ensures) ∙ not-true _ (c .if2 .taken))
+    let m : Mesh = mesh (a .vertices .now) (a .positions .now) (a .arcs .now) (a .edges .now) (a .faces .now) (a .counters .now) in
+    let n : Mesh = mesh (a .vertices .now) (a .positions .now) (d .last .0) (a .edges .now) (d .last .1 .0) (a .counters .now) in
+    split-second m n (a .f) (a .s) (a .d) (c .before .before .before .before .before .before .before .before .before .before .before .before .before .before .before .before .before .before .before .before .before .before .before .before .before .before .before .before .before .before .before .half .result) (c .before .before .before .before .before .before .before .before .before .before .before .before .before .before .before .before .before .before .before .before .before .before .before .before .before .before .before .before .half2 .result) (c .before .before .before .before .before .before .before .before .before .before .before .before .before .before .before .before .before .before .before .before .before .before .before .before .before .before .before .before .before .before .before .half .ensures (a .vertices .now) (a .positions .now) (a .edges .now) (a .counters .now)) (c .before .before .before .before .before .before .before .before .before .before .before .before .before .before .before .before .before .before .before .before .before .before .before .before .before .before .before .before .half2 .ensures (a .vertices .now) (a .positions .now) (a .edges .now) (a .counters .now)) (d .ensures (a .vertices .now) (a .positions .now) (a .edges .now) (a .counters .now)) (c .before .before .before .before .before .before .before .before .half-checks .result) (c .before .before .before .before .before .before .before .before .half-checks .ensures (a .vertices .now) (a .edges .now) (d .last .1 .0) (a .counters .now)) (sym (c .before .before .before .before .before .before .before .accepted .ensures) ∙ not-false _ (c .before .before .before .before .before .before .if1 .left)) (c .before .before .half-checks2 .result) (c .before .before .half-checks2 .ensures (a .vertices .now) (a .edges .now) (d .last .1 .0) (a .counters .now)) (sym (c .before .accepted2 .ensures) ∙ not-true _ (c .if2 .taken))
 
 halves-in-requires : tie.Need-halves-in-requires
 halves-in-requires c κs = c .before .before .before .before .before .before .before .before .before .before .before .before .before .before .before .before .before .before .before .before .near-edit .ensures
@@ -59,14 +57,13 @@ same-length-12 c = c .before .before .before .before .halves-in .kept .1 .1 .1 .
 
 returns-3 : tie.Need-returns-3
 returns-3 c =
-    λ p.
     let a = c .before .before .before .before .before .before .before .before .before .before .before .before .before .before .before .before .before .before .before .before .before .before .before .before .before .before .before .before .before .before .before .before .before .before .before .before .before .before .before .before .before .before .before .before .before .before .args in
     let d = c .before .before .before .before .before .before .before .before .before .before .before .before .before .before .before .before .before .before .before .before .before .before .before .before .before .before .before .before .before .before .before .before .before .remove-face in
     let g = c .before .before .before .before .halves-in in
-    let m : Mesh = mesh (a .vertices .now) p (a .arcs .now) (a .edges .now) (a .faces .now) (a .counters .now) in
-    let n : Mesh = mesh (a .vertices .now) p (d .last .0) (a .edges .now) (d .last .1 .0) (a .counters .now) in
-    let m′ : Mesh = mesh (g .last .0) p (g .last .1 .0) (g .last .1 .1 .0) (g .last .1 .1 .1 .0) (g .last .1 .1 .1 .1 .0) in
-    split-done m n (a .f) (a .s) (a .d) (c .before .before .before .before .before .before .before .before .before .before .before .before .before .before .before .before .before .before .before .before .before .before .before .before .before .before .before .before .before .before .before .before .before .before .before .before .before .before .before .before .before .before .before .half .result) (c .before .before .before .before .before .before .before .before .before .before .before .before .before .before .before .before .before .before .before .before .before .before .before .before .before .before .before .before .before .before .before .before .before .before .before .before .before .before .before .before .half2 .result) (c .before .before .before .before .before .before .before .before .before .before .before .before .before .before .before .before .before .before .before .before .before .before .before .before .before .before .before .before .before .before .before .before .before .before .before .before .before .before .before .before .before .before .before .half .ensures (a .vertices .now) p (a .edges .now) (a .counters .now)) (c .before .before .before .before .before .before .before .before .before .before .before .before .before .before .before .before .before .before .before .before .before .before .before .before .before .before .before .before .before .before .before .before .before .before .before .before .before .before .before .before .half2 .ensures (a .vertices .now) p (a .edges .now) (a .counters .now)) (d .ensures (a .vertices .now) p (a .edges .now) (a .counters .now)) (c .before .before .before .before .before .before .before .before .before .before .before .before .before .before .before .before .before .before .before .before .half-checks .result) (c .before .before .before .before .before .before .before .before .before .before .before .before .before .before .before .before .before .before .before .before .half-checks .ensures (a .vertices .now) p (a .edges .now) (d .last .1 .0) (a .counters .now)) (sym (c .before .before .before .before .before .before .before .before .before .before .before .before .before .before .before .before .before .before .before .accepted .ensures) ∙ not-false _ (c .before .before .before .before .before .before .before .before .before .before .before .before .before .before .before .before .before .before .if1 .left)) (c .before .before .before .before .before .before .before .before .before .before .before .before .before .before .half-checks2 .result) (c .before .before .before .before .before .before .before .before .before .before .before .before .before .before .half-checks2 .ensures (a .vertices .now) p (a .edges .now) (d .last .1 .0) (a .counters .now)) (sym (c .before .before .before .before .before .before .before .before .before .before .before .before .before .accepted2 .ensures) ∙ not-false _ (c .before .before .before .before .before .before .before .before .before .before .before .before .if2 .left)) m′ (c .before .before .before .before .before .before .before .before .before .before .before .before .before .before .before .before .before .before .before .before .before .before .before .before .before .before .before .before .before .before .before .before .before .before .before .before .before .before .key-at .result) (c .before .before .before .before .before .before .before .before .before .before .before .before .before .before .before .before .before .before .before .before .before .before .before .before .before .before .before .before .before .before .before .before .before .before .before .before .key-at2 .result) (c .before .before .before .before .before .before .before .before .before .before .before .before .before .before .before .before .before .before .before .before .before .before .before .before .before .before .before .before .before .before .before .before .before .before .before .before .before .before .key-at .ensures) (c .before .before .before .before .before .before .before .before .before .before .before .before .before .before .before .before .before .before .before .before .before .before .before .before .before .before .before .before .before .before .before .before .before .before .before .before .key-at2 .ensures) (g .ensures p)
+    let m : Mesh = mesh (a .vertices .now) (a .positions .now) (a .arcs .now) (a .edges .now) (a .faces .now) (a .counters .now) in
+    let n : Mesh = mesh (a .vertices .now) (a .positions .now) (d .last .0) (a .edges .now) (d .last .1 .0) (a .counters .now) in
+    let m′ : Mesh = mesh (g .last .0) (a .positions .now) (g .last .1 .0) (g .last .1 .1 .0) (g .last .1 .1 .1 .0) (g .last .1 .1 .1 .1 .0) in
+    split-done m n (a .f) (a .s) (a .d) (c .before .before .before .before .before .before .before .before .before .before .before .before .before .before .before .before .before .before .before .before .before .before .before .before .before .before .before .before .before .before .before .before .before .before .before .before .before .before .before .before .before .before .before .half .result) (c .before .before .before .before .before .before .before .before .before .before .before .before .before .before .before .before .before .before .before .before .before .before .before .before .before .before .before .before .before .before .before .before .before .before .before .before .before .before .before .before .half2 .result) (c .before .before .before .before .before .before .before .before .before .before .before .before .before .before .before .before .before .before .before .before .before .before .before .before .before .before .before .before .before .before .before .before .before .before .before .before .before .before .before .before .before .before .before .half .ensures (a .vertices .now) (a .positions .now) (a .edges .now) (a .counters .now)) (c .before .before .before .before .before .before .before .before .before .before .before .before .before .before .before .before .before .before .before .before .before .before .before .before .before .before .before .before .before .before .before .before .before .before .before .before .before .before .before .before .half2 .ensures (a .vertices .now) (a .positions .now) (a .edges .now) (a .counters .now)) (d .ensures (a .vertices .now) (a .positions .now) (a .edges .now) (a .counters .now)) (c .before .before .before .before .before .before .before .before .before .before .before .before .before .before .before .before .before .before .before .before .half-checks .result) (c .before .before .before .before .before .before .before .before .before .before .before .before .before .before .before .before .before .before .before .before .half-checks .ensures (a .vertices .now) (a .edges .now) (d .last .1 .0) (a .counters .now)) (sym (c .before .before .before .before .before .before .before .before .before .before .before .before .before .before .before .before .before .before .before .accepted .ensures) ∙ not-false _ (c .before .before .before .before .before .before .before .before .before .before .before .before .before .before .before .before .before .before .if1 .left)) (c .before .before .before .before .before .before .before .before .before .before .before .before .before .before .half-checks2 .result) (c .before .before .before .before .before .before .before .before .before .before .before .before .before .before .half-checks2 .ensures (a .vertices .now) (a .edges .now) (d .last .1 .0) (a .counters .now)) (sym (c .before .before .before .before .before .before .before .before .before .before .before .before .before .accepted2 .ensures) ∙ not-false _ (c .before .before .before .before .before .before .before .before .before .before .before .before .if2 .left)) m′ (c .before .before .before .before .before .before .before .before .before .before .before .before .before .before .before .before .before .before .before .before .before .before .before .before .before .before .before .before .before .before .before .before .before .before .before .before .before .before .key-at .result) (c .before .before .before .before .before .before .before .before .before .before .before .before .before .before .before .before .before .before .before .before .before .before .before .before .before .before .before .before .before .before .before .before .before .before .before .before .key-at2 .result) (c .before .before .before .before .before .before .before .before .before .before .before .before .before .before .before .before .before .before .before .before .before .before .before .before .before .before .before .before .before .before .before .before .before .before .before .before .before .before .key-at .ensures) (c .before .before .before .before .before .before .before .before .before .before .before .before .before .before .before .before .before .before .before .before .before .before .before .before .before .before .before .before .before .before .before .before .before .before .before .before .key-at2 .ensures) (g .ensures (a .positions .now))
 
 pub split-work-spec : {M : Type 1} → statement M
 split-work-spec =

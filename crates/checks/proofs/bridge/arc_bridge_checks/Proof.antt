@@ -7,12 +7,12 @@ use Rattle.rules.specs.Edit.{arcBridgeChecks}
 
 returns : tie.Need-returns
 unfolding arcBridgeChecks
-returns c = λ vs ps es fs ks. rw (← c .before .arcs-between .ensures .0 .one, eq-eqb _ _ (c .if1 .taken))
+returns c = λ vs es fs ks. rw (← c .before .arcs-between .ensures .0 .one, eq-eqb _ _ (c .if1 .taken))
 
 returns-2 : tie.Need-returns-2
 unfolding arcBridgeChecks
 returns-2 c =
-    λ vs ps es fs ks.
+    λ vs es fs ks.
     let t = c .before .before .arcs-between .ensures .0 in
     rw (← t .one, ← t .other, ne-eqb _ _ (c .before .if1 .left), eq-eqb _ _ (c .if2 .taken))
 
@@ -23,9 +23,9 @@ arc-bridge-checks-by-requires c κs =
 
 returns-3 : tie.Need-returns-3
 returns-3 c =
-    λ vs ps es fs ks.
+    λ vs es fs ks.
     let t = c .before .before .before .arcs-between .ensures .0 in
-    rw (← t .one, ← t .other) (c .arc-bridge-checks-by .ensures vs ps es fs ks)
+    rw (← t .one, ← t .other) (c .arc-bridge-checks-by .ensures vs es fs ks)
 
 pub arc-bridge-checks-spec : {M : Type 1} → statement M
 arc-bridge-checks-spec =

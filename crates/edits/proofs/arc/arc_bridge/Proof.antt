@@ -33,11 +33,10 @@ arc-bridge-checks-by-requires c κs =
 returns : tie.Need-returns
 unfolding arcBridgeBy
 returns c =
-    λ p.
     let a = c .before .before .before .before .before .before .before .before .before .before .before .args in
-    let m : Mesh = mesh (a .vertices .now) p (a .arcs .now) (a .edges .now) (a .faces .now) (a .counters .now) in
+    let m : Mesh = mesh (a .vertices .now) (a .positions .now) (a .arcs .now) (a .edges .now) (a .faces .now) (a .counters .now) in
     let k = c .before .before .arc-bridge-checks-by in
-    checked-refused m (arcBridgeWorkBy searching m (a .x) (a .y)) (k .result) (arcBridgeChecks m (a .x) (a .y)) (k .ensures (a .vertices .now) p (a .edges .now) (a .faces .now) (a .counters .now)) (sym (c .before .accepted .ensures) ∙ not-true _ (c .if1 .taken))
+    checked-refused m (arcBridgeWorkBy searching m (a .x) (a .y)) (k .result) (arcBridgeChecks m (a .x) (a .y)) (k .ensures (a .vertices .now) (a .edges .now) (a .faces .now) (a .counters .now)) (sym (c .before .accepted .ensures) ∙ not-true _ (c .if1 .taken))
 
 insert-by-requires : tie.Need-insert-by-requires
 insert-by-requires c κs =
@@ -59,16 +58,15 @@ same-length-5 c = c .before .before .before .before .insert-by .kept .1 .1 .1 .0
 returns-2 : tie.Need-returns-2
 unfolding arcBridgeBy
 returns-2 c =
-    λ p.
     let a = c .before .before .before .before .before .before .before .before .before .before .before .before .before .before .before .before .before .before .before .before .before .before .before .args in
     let g = c .before .before .before .before .insert-by in
     let k = c .before .before .before .before .before .before .before .before .before .before .before .before .before .before .arc-bridge-checks-by in
     let four = c .before .before .before .before .before .before .before .before .before .before .before .before .before .before .before .before .before .before .before .before .before .corners-of in
     let per = c .before .before .before .before .before .before .before .before .before .before .before .before .before .before .before .before .before .before .before .before .corner-list in
-    let m : Mesh = mesh (a .vertices .now) p (a .arcs .now) (a .edges .now) (a .faces .now) (a .counters .now) in
-    let m′ : Mesh = mesh (g .last .0) p (g .last .1 .0) (g .last .1 .1 .0) (g .last .1 .1 .1 .0) (g .last .1 .1 .1 .1 .0) in
-    let done : step m′ (Key (getD (a .counters .now) 2 0)) ≡ arcBridgeWorkBy searching m (a .x) (a .y) = arc-bridged m m′ (a .x) (a .y) (four .result) (per .result) (getD (a .counters .now) 2 0) (per .ensures) (four .ensures (a .vertices .now) p (a .edges .now) (a .faces .now) (a .counters .now)) refl (g .ensures p) in
-    checked-done m (arcBridgeWorkBy searching m (a .x) (a .y)) (k .result) (arcBridgeChecks m (a .x) (a .y)) (step m′ (Key (getD (a .counters .now) 2 0))) (k .ensures (a .vertices .now) p (a .edges .now) (a .faces .now) (a .counters .now)) (sym (c .before .before .before .before .before .before .before .before .before .before .before .before .before .accepted .ensures) ∙ not-false _ (c .before .before .before .before .before .before .before .before .before .before .before .before .if1 .left)) done
+    let m : Mesh = mesh (a .vertices .now) (a .positions .now) (a .arcs .now) (a .edges .now) (a .faces .now) (a .counters .now) in
+    let m′ : Mesh = mesh (g .last .0) (a .positions .now) (g .last .1 .0) (g .last .1 .1 .0) (g .last .1 .1 .1 .0) (g .last .1 .1 .1 .1 .0) in
+    let done : step m′ (Key (getD (a .counters .now) 2 0)) ≡ arcBridgeWorkBy searching m (a .x) (a .y) = arc-bridged m m′ (a .x) (a .y) (four .result) (per .result) (getD (a .counters .now) 2 0) (per .ensures) (four .ensures (a .vertices .now) (a .positions .now) (a .edges .now) (a .faces .now) (a .counters .now)) refl (g .ensures (a .positions .now)) in
+    checked-done m (arcBridgeWorkBy searching m (a .x) (a .y)) (k .result) (arcBridgeChecks m (a .x) (a .y)) (step m′ (Key (getD (a .counters .now) 2 0))) (k .ensures (a .vertices .now) (a .edges .now) (a .faces .now) (a .counters .now)) (sym (c .before .before .before .before .before .before .before .before .before .before .before .before .before .accepted .ensures) ∙ not-false _ (c .before .before .before .before .before .before .before .before .before .before .before .before .if1 .left)) done
 
 pub arc-bridge-spec : {M : Type 1} → statement M
 arc-bridge-spec =

@@ -28,24 +28,23 @@ same-length : tie.Need-same-length
 same-length c = c .before .before .before .before .arc-bridge .kept .0 ∙ c .before .before .before .before .before .before .before .before .before .before .before .before .before .before .before .edge-near .kept .0
 
 same-length-2 : tie.Need-same-length-2
-same-length-2 c = c .before .before .before .before .arc-bridge .kept .1 .0 ∙ c .before .before .before .before .before .before .before .before .before .before .before .before .before .before .before .edge-near .kept .1 .0
+same-length-2 c = c .before .before .before .before .arc-bridge .kept .1 .1 .0 ∙ c .before .before .before .before .before .before .before .before .before .before .before .before .before .before .before .edge-near .kept .1 .0
 
 same-length-3 : tie.Need-same-length-3
-same-length-3 c = c .before .before .before .before .arc-bridge .kept .1 .1 .0 ∙ c .before .before .before .before .before .before .before .before .before .before .before .before .before .before .before .edge-near .kept .1 .1 .0
+same-length-3 c = c .before .before .before .before .arc-bridge .kept .1 .1 .1 .0 ∙ c .before .before .before .before .before .before .before .before .before .before .before .before .before .before .before .edge-near .kept .1 .1 .0
 
 same-length-4 : tie.Need-same-length-4
-same-length-4 c = c .before .before .before .before .arc-bridge .kept .1 .1 .1 .0
+same-length-4 c = c .before .before .before .before .arc-bridge .kept .1 .1 .1 .1 .0
 
 returns : tie.Need-returns
 returns c =
-    λ p.
     let a = c .before .before .before .before .before .before .before .before .before .before .before .before .before .before .before .before .before .before .before .before .before .before .before .before .before .before .before .before .before .before .args in
     let g = c .before .before .before .before .before .before .before .before .before .before .before .before .before .before .before .edge-near in
     let t = c .before .before .before .before .arc-bridge in
-    let m : Mesh = mesh (a .vertices .now) p (a .arcs .now) (a .edges .now) (a .faces .now) (a .counters .now) in
-    let n : Mesh = mesh (g .last .0) p (g .last .1 .0) (g .last .1 .1 .0) (a .faces .now) (g .last .1 .1 .1 .0) in
-    let s : Step = step (mesh (t .last .0) p (t .last .1 .0) (t .last .1 .1 .0) (t .last .1 .1 .1 .0) (t .last .1 .1 .1 .1 .0)) (t .result) in
-    joined-by m n s (a .x) (a .c) (a .d) (g .result) (g .ensures .0 p (a .faces .now)) (g .ensures .1) (t .ensures p)
+    let m : Mesh = mesh (a .vertices .now) (a .positions .now) (a .arcs .now) (a .edges .now) (a .faces .now) (a .counters .now) in
+    let n : Mesh = mesh (g .last .0) (a .positions .now) (g .last .1 .0) (g .last .1 .1 .0) (a .faces .now) (g .last .1 .1 .1 .0) in
+    let s : Step = step (mesh (t .last .0) (a .positions .now) (t .last .1 .1 .0) (t .last .1 .1 .1 .0) (t .last .1 .1 .1 .1 .0) (t .last .1 .1 .1 .1 .1 .0)) (t .result) in
+    joined-by m n s (a .x) (a .c) (a .d) (g .result) (g .ensures .0 (a .positions .now) (a .faces .now)) (g .ensures .1) (t .ensures)
 
 pub joined-spec : {M : Type 1} → statement M
 joined-spec =

@@ -23,10 +23,9 @@ insert-checks-by-requires c κs = held (c .before)
 
 returns : tie.Need-returns
 returns c =
-    λ p.
     let a = c .before .before .before .before .before .before .before .before .args in
     let k = c .before .before .insert-checks-by in
-    insert-refused (mesh (a .vertices .now) p (a .arcs .now) (a .edges .now) (a .faces .now) (a .counters .now)) (listOf (a .per)) (a .mark) (k .result) (k .ensures (a .vertices .now) p (a .edges .now) (a .faces .now) (a .counters .now)) (sym (c .before .accepted .ensures) ∙ not-true _ (c .if1 .taken))
+    insert-refused (mesh (a .vertices .now) (a .positions .now) (a .arcs .now) (a .edges .now) (a .faces .now) (a .counters .now)) (listOf (a .per)) (a .mark) (k .result) (k .ensures (a .vertices .now) (a .edges .now) (a .faces .now) (a .counters .now)) (sym (c .before .accepted .ensures) ∙ not-true _ (c .if1 .taken))
 
 insert-by-requires : tie.Need-insert-by-requires
 insert-by-requires c κs =
@@ -47,11 +46,10 @@ same-length-5 c = c .before .before .before .before .insert-by .kept .1 .1 .1 .0
 
 returns-2 : tie.Need-returns-2
 returns-2 c =
-    λ p.
     let a = c .before .before .before .before .before .before .before .before .before .before .before .before .before .before .before .before .before .before .before .before .args in
     let k = c .before .before .before .before .before .before .before .before .before .before .before .before .before .before .insert-checks-by in
     let w = c .before .before .before .before .insert-by in
-    insert-done (mesh (a .vertices .now) p (a .arcs .now) (a .edges .now) (a .faces .now) (a .counters .now)) (mesh (w .last .0) p (w .last .1 .0) (w .last .1 .1 .0) (w .last .1 .1 .1 .0) (w .last .1 .1 .1 .1 .0)) (listOf (a .per)) (a .mark) (k .result) (getD (a .counters .now) 2 0) (k .ensures (a .vertices .now) p (a .edges .now) (a .faces .now) (a .counters .now)) (sym (c .before .before .before .before .before .before .before .before .before .before .before .before .before .accepted .ensures) ∙ not-false _ (c .before .before .before .before .before .before .before .before .before .before .before .before .if1 .left)) refl (w .ensures p)
+    insert-done (mesh (a .vertices .now) (a .positions .now) (a .arcs .now) (a .edges .now) (a .faces .now) (a .counters .now)) (mesh (w .last .0) (a .positions .now) (w .last .1 .0) (w .last .1 .1 .0) (w .last .1 .1 .1 .0) (w .last .1 .1 .1 .1 .0)) (listOf (a .per)) (a .mark) (k .result) (getD (a .counters .now) 2 0) (k .ensures (a .vertices .now) (a .edges .now) (a .faces .now) (a .counters .now)) (sym (c .before .before .before .before .before .before .before .before .before .before .before .before .before .accepted .ensures) ∙ not-false _ (c .before .before .before .before .before .before .before .before .before .before .before .before .if1 .left)) refl (w .ensures (a .positions .now))
 
 pub insert-face-spec : {M : Type 1} → statement M
 insert-face-spec =
