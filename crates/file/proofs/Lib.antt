@@ -1,3 +1,6 @@
 pub mod Cells
 pub mod Whole
 pub mod Examples
+pub mod Rows
+pub mod Rowed
+pub mod ReadWrite
