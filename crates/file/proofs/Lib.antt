@@ -4,3 +4,4 @@ pub mod Examples
 pub mod Rows
 pub mod Rowed
 pub mod ReadWrite
+pub mod Told
