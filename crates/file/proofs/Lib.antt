@@ -5,3 +5,5 @@ pub mod Rows
 pub mod Rowed
 pub mod ReadWrite
 pub mod Told
+pub mod Listed
+pub mod Placed

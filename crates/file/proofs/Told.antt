@@ -208,11 +208,11 @@ module _ (m : Mesh) (S : SoundFacts m) (H : Stored m) where
   unfolding arcName
   arc-keys x u = rw (ne-eqb x 0 (arc-some x u))
 
-  starts-at : (x : ℕ) → IsArc m x → keyCell (arcName m x) 0 ≡ keyAt (m .vertices) (source m x)
+  pub starts-at : (x : ℕ) → IsArc m x → keyCell (arcName m x) 0 ≡ keyAt (m .vertices) (source m x)
   unfolding keyCell
   starts-at x u = ap (λ (w : List ℕ). getD w 0 noneCell) (arc-keys x u)
 
-  ends-at : (x : ℕ) → IsArc m x → keyCell (arcName m x) 1 ≡ keyAt (m .vertices) (dest m x)
+  pub ends-at : (x : ℕ) → IsArc m x → keyCell (arcName m x) 1 ≡ keyAt (m .vertices) (dest m x)
   unfolding keyCell
   ends-at x u = ap (λ (w : List ℕ). getD w 1 noneCell) (arc-keys x u)
 
