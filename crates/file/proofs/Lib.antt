@@ -7,3 +7,4 @@ pub mod ReadWrite
 pub mod Told
 pub mod Listed
 pub mod Placed
+pub mod Renamed
