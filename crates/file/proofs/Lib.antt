@@ -8,3 +8,4 @@ pub mod Told
 pub mod Listed
 pub mod Placed
 pub mod Renamed
+pub mod Moved

@@ -147,7 +147,7 @@ in-use rows t make R pos = used-links t 1 (length rows) t (R .few) each
             ap not (ne-eqb (cell t (i + 1) 0) 0 (λ e. pos (getD rows i []) (sym (R .cells i 0 p) ∙ e))) ∙ sym (lt-ltb i (length rows) p)
         go (no p) =
             let q : length rows ≤ i = omega arith in
-            ap not (eq-eqb (cell t (i + 1) 0) 0 (R .past i q)) ∙ sym (le-ltb i (length rows) q)
+            ap not (eq-eqb (cell t (i + 1) 0) 0 (R .past i 0 q)) ∙ sym (le-ltb i (length rows) q)
 
 -- a record before another by its first cell, and by its first two
 pub rises-one : (r s : List ℕ) → T (risesBy 1 r s) → ltb (getD r 0 0) (getD s 0 0) ≡ true

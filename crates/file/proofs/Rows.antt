@@ -99,22 +99,39 @@ filled-row {A = A} {B = B} n z f rows k d e h = go rows k h (replicate (n - leng
     go (r ∷ rs) zero l rest = refl
     go (r ∷ rs) (suc i) l rest = go rs i (le-of-suc-le-suc l) rest
 
--- a further row is unused
-pub filled-past : (n : ℕ) (z : List ℕ) (f : List ℕ → List ℕ) (rows : Table) (k : ℕ) → getD z 0 0 ≡ 0 → length rows ≤ k
-    → getD (getD (filled n z (map f rows)) k []) 0 0 ≡ 0
+-- a further row is zero
+pub filled-past : (n : ℕ) (z : List ℕ) (f : List ℕ → List ℕ) (rows : Table) (k j : ℕ) → ((i : ℕ) → getD z i 0 ≡ 0) → length rows ≤ k
+    → getD (getD (filled n z (map f rows)) k []) j 0 ≡ 0
 unfolding filled
-filled-past n z f rows k e h =
+filled-past n z f rows k j e h =
     let s : Table = replicate (n - length (map f rows)) z in
-    let j : ℕ = k - length (map f rows) in
-    let at : k ≡ length (map f rows) + j = omega (arith, length-map rows f) in
-    ap (λ (i : ℕ). getD (getD (map f rows ++ s) i []) 0 0) at
-    ∙ ap (λ (r : List ℕ). getD r 0 0) (getD-append-add (map f rows) s j [])
-    ∙ zeros (n - length (map f rows)) j
+    let q : ℕ = k - length (map f rows) in
+    let at : k ≡ length (map f rows) + q = omega (arith, length-map rows f) in
+    ap (λ (i : ℕ). getD (getD (map f rows ++ s) i []) j 0) at
+    ∙ ap (λ (r : List ℕ). getD r j 0) (getD-append-add (map f rows) s q [])
+    ∙ zeros (n - length (map f rows)) q
   where
-    zeros : (m i : ℕ) → getD (getD (replicate m z) i []) 0 0 ≡ 0
-    zeros zero i = refl
-    zeros (suc m) zero = e
+    none : (i : ℕ) → _≡_ {A = ℕ} (getD [] i 0) 0
+    none zero = refl
+    none (suc i) = refl
+
+    zeros : (m i : ℕ) → getD (getD (replicate m z) i []) j 0 ≡ 0
+    zeros zero zero = none j
+    zeros zero (suc i) = none j
+    zeros (suc m) zero = e j
     zeros (suc m) (suc i) = zeros m i
+
+-- of any kind
+pub filled-rest {ℓ} : {A B : Type ℓ} (n : ℕ) (z : B) (f : A → B) (rows : List A) (k : ℕ) (e : B) → length rows ≤ k → k < length (filled n z (map f rows))
+    → getD (filled n z (map f rows)) k e ≡ z
+unfolding filled
+filled-rest {B = B} n z f rows k e h l =
+    let s : List B = replicate (n - length (map f rows)) z in
+    let q : ℕ = k - length (map f rows) in
+    let at : k ≡ length (map f rows) + q = omega (arith, length-map rows f) in
+    ap (λ (i : ℕ). getD (map f rows ++ s) i e) at
+    ∙ getD-append-add (map f rows) s q e
+    ∙ getD-replicate (n - length (map f rows)) q z e (omega (arith, length-append (map f rows) s, length-replicate (n - length (map f rows)) z))
 
 -- ---- records by their names
 

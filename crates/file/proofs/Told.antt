@@ -181,7 +181,7 @@ unfolding nameUnless
 unless-is-some k name e = rw (ne-eqb k noneCell e)
 
 module _ (m : Mesh) (S : SoundFacts m) (H : Stored m) where
-  counter-fits : (kind : ℕ) → kind < 3 → nextKey m kind < 256 ^ 4
+  pub counter-fits : (kind : ℕ) → kind < 3 → nextKey m kind < 256 ^ 4
   counter-fits kind l = go kind l (cell-fits-at counterWidths (m .counters) kind (H .counters) l)
     where
       go : (k : ℕ) → k < 3 → getD (m .counters) k 0 < 256 ^ getD counterWidths k 0 → getD (m .counters) k 0 < 256 ^ 4
@@ -191,17 +191,17 @@ module _ (m : Mesh) (S : SoundFacts m) (H : Stored m) where
       go (suc (suc (suc k))) q h = absurd (let z : ⊥ = omega arith in z)
 
   -- keys fit a u32, and none of them is none
-  vertex-low : (v : ℕ) → IsVertex m v → keyAt (m .vertices) v < noneCell
+  pub vertex-low : (v : ℕ) → IsVertex m v → keyAt (m .vertices) v < noneCell
   vertex-low v u = omega (arith, S .vertex-keys-below v u, counter-fits 0 (omega arith))
 
-  edge-low : (e : ℕ) → IsEdge m e → keyAt (m .edges) e < noneCell
+  pub edge-low : (e : ℕ) → IsEdge m e → keyAt (m .edges) e < noneCell
   edge-low e u = omega (arith, S .edge-keys-below e u, counter-fits 1 (omega arith))
 
-  face-low : (f : ℕ) → IsFace m f → keyAt (m .faces) f < noneCell
+  pub face-low : (f : ℕ) → IsFace m f → keyAt (m .faces) f < noneCell
   face-low f u = omega (arith, S .face-keys-below f u, counter-fits 2 (omega arith))
 
   -- an arc's name
-  arc-some : (x : ℕ) → IsArc m x → x ≡ 0 → ⊥
+  pub arc-some : (x : ℕ) → IsArc m x → x ≡ 0 → ⊥
   arc-some x u e = omega (arith, in-table (m .arcs) x u .0)
 
   arc-keys : (x : ℕ) → IsArc m x → arcName m x ≡ keyAt (m .vertices) (source m x) ∷ keyAt (m .vertices) (dest m x) ∷ []
@@ -216,7 +216,7 @@ module _ (m : Mesh) (S : SoundFacts m) (H : Stored m) where
   unfolding keyCell
   ends-at x u = ap (λ (w : List ℕ). getD w 1 noneCell) (arc-keys x u)
 
-  no-arc : (i : ℕ) → keyCell (arcName m 0) i ≡ noneCell
+  pub no-arc : (i : ℕ) → keyCell (arcName m 0) i ≡ noneCell
   unfolding keyCell arcName
   no-arc zero = refl
   no-arc (suc i) = refl
@@ -258,19 +258,19 @@ module _ (m : Mesh) (S : SoundFacts m) (H : Stored m) where
           ∙ sym (arc-keys x u)
 
   -- a vertex's coordinates
-  has-position : (v : ℕ) → IsVertex m v → v ≤ length (m .positions)
+  pub has-position : (v : ℕ) → IsVertex m v → v ≤ length (m .positions)
   has-position v u = omega (arith, in-table (m .vertices) v u .1, S .sizes .position-rows)
 
-  position-here : (v : ℕ) → IsVertex m v → positionAt (m .positions) v ≡ positionOf (getD (m .positions) (v - 1) [])
+  pub position-here : (v : ℕ) → IsVertex m v → positionAt (m .positions) v ≡ positionOf (getD (m .positions) (v - 1) [])
   position-here v u =
       let low = in-table (m .vertices) v u .0 in
       ap (λ (z : ℕ). positionAt (m .positions) z) (sym (link-row v low))
       ∙ position-is (m .positions) (v - 1) (omega (arith, has-position v u))
 
-  bits-fit : (v c : ℕ) → IsVertex m v → c < 3 → toBits binary64 (coordinate m v c) < 256 ^ 8
+  pub bits-fit : (v c : ℕ) → IsVertex m v → c < 3 → toBits binary64 (coordinate m v c) < 256 ^ 8
   bits-fit v c u l = toBits-lt binary64 (coordinate m v c) (H .coordinates v c (in-table (m .vertices) v u .0) (has-position v u) l)
 
-  bits-tell : (v c : ℕ) → IsVertex m v → c < 3 → ofBits binary64 (toBits binary64 (coordinate m v c)) ≡ coordinate m v c
+  pub bits-tell : (v c : ℕ) → IsVertex m v → c < 3 → ofBits binary64 (toBits binary64 (coordinate m v c)) ≡ coordinate m v c
   bits-tell v c u l = ofBits-toBits binary64 (coordinate m v c) (H .coordinates v c (in-table (m .vertices) v u .0) (has-position v u) l)
 
   -- ---- told
@@ -323,7 +323,7 @@ module _ (m : Mesh) (S : SoundFacts m) (H : Stored m) where
   unfolding edgeTold edgeCells edgeRecord
   edge-told e u = rw (arc-told (edgeArc m e) (S .both-arcs e u .first-exists))
 
-  face-arc : (f : ℕ) → IsFace m f → IsArc m (faceArc m f)
+  pub face-arc : (f : ℕ) → IsFace m f → IsArc m (faceArc m f)
   unfolding times
   face-arc f u = let ring = S .rings f u in ring .each-holds 0 (omega (arith, ring .at-least-3)) .exists
 
