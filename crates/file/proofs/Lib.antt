@@ -9,3 +9,4 @@ pub mod Listed
 pub mod Placed
 pub mod Renamed
 pub mod Moved
+pub mod WriteRead

@@ -20,8 +20,8 @@ use Rattle.proved.specs.Facts.{IsVertex, IsArc, IsEdge, IsFace, Sizes, KeysDiff
 use Rattle.proved.proofs.Rows.{true-T, differ-T, row-link, link-row, cell-none, in-table}
 use Rattle.file.specs.File.{Contents, noneCell, keyCell, vertexCells, arcCells, edgeCells, faceCells, contentsOf, body, orNowhere, nowhere, hasKey, hasEnds, byKey, byEnds, unlessNone, vertexRow, positionRow, arcRow, edgeRow, faceRow}
 use Rattle.file.specs.Stored.{Stored}
-use Rattle.file.proofs.Rowed.{RowsOf, Rowed}
-use Rattle.file.proofs.ReadWrite.{unless-none, unless-some, by-key-pos, none-cell, some-cell}
+use Rattle.file.proofs.Rowed.{RowsOf, Rowed, FirstCell, vertex-pos, arc-pos, edge-pos, face-pos}
+use Rattle.file.proofs.ReadWrite.{unless-none, unless-some, none-cell, some-cell}
 use Rattle.file.proofs.Told.{linksIn, vertex-low, edge-low, face-low, starts-at, ends-at, no-arc, position-here, bits-tell, face-arc}
 use Rattle.file.proofs.Listed.{Listed, listed}
 use Rattle.file.proofs.Placed.{cells-at, cells-count}
@@ -36,20 +36,7 @@ pub record Kin (t u rows : Table) (make : List ℕ → List ℕ) (cellsOf : ℕ 
   pub count : length rows ≡ length links
   pub row : (i : ℕ) → i < length links → getD rows i [] ≡ cellsOf (getD links i 0)
   pub place : (i : ℕ) → i < length links → to (getD links i 0) ≡ i + 1
-  pub pos : (r : List ℕ) → getD (make r) 0 0 ≡ 0 → ⊥
-
--- rows that are not of a record are zero
-pub rest-zero : (rows u : Table) (make : List ℕ → List ℕ) → RowsOf rows make u → ((r : List ℕ) → getD (make r) 0 0 ≡ 0 → ⊥) → UnusedZero u
-rest-zero rows u make Q pos zero k h = cell-none u k
-rest-zero rows u make Q pos (suc i) k h = go (decLt i (length rows))
-  where
-    link : suc i ≡ i + 1
-    link = omega arith
-
-    go : Dec (i < length rows) → cell u (suc i) k ≡ 0
-    go (yes l) =
-        absurd (h (subst (λ (z : ℕ). T (there u z)) (sym link) (differ-T (cell u (i + 1) 0) 0 (λ e. pos (getD rows i []) (sym (Q .cells i 0 l) ∙ e)))))
-    go (no l) = ap (λ (z : ℕ). cell u z k) link ∙ Q .past i k (omega arith)
+  pub pos : FirstCell make
 
 module _ {t u rows : Table} {make : List ℕ → List ℕ} {cellsOf : ℕ → List ℕ} {links : List ℕ} {to : ℕ → ℕ} (K : Kin t u rows make cellsOf links to) where
   pub kin-used : (i : ℕ) → i < length links → T (there u (i + 1))
@@ -257,23 +244,6 @@ module _ (m : Mesh) (S : SoundFacts m) (H : Stored m) where
               let z : j ≡ i = L .once j i a l (S .pairs-differ x y u w s t) in
               absurd (let bad : ⊥ = omega arith in bad)
 
-  -- a row's first cell is not 0
-  vertex-pos : (r : List ℕ) → getD (vertexRow held r) 0 0 ≡ 0 → ⊥
-  unfolding vertexRow
-  vertex-pos r e = omega arith
-
-  edge-pos : (r : List ℕ) → getD (edgeRow held r) 0 0 ≡ 0 → ⊥
-  unfolding edgeRow
-  edge-pos r e = omega arith
-
-  face-pos : (r : List ℕ) → getD (faceRow held r) 0 0 ≡ 0 → ⊥
-  unfolding faceRow
-  face-pos r e = omega arith
-
-  arc-pos : (r : List ℕ) → getD (arcRow held r) 0 0 ≡ 0 → ⊥
-  unfolding arcRow
-  arc-pos r e = by-key-pos held 0 (getD r 0 0) e
-
   -- ---- links carried over
 
   -- an arc or none, from its destination or its source
@@ -344,16 +314,16 @@ module _ (m : Mesh) (S : SoundFacts m) (H : Stored m) where
   module _ (n : Mesh) (R : Rowed held n) where
     vertex-kin : Kin (m .vertices) (n .vertices) (body held 0) (vertexRow held) (λ v. vertexCells (vertexRecord m v)) vertexLinks vertexTo
     vertex-kin =
-        record { in-list = listed (keyBefore (m .vertices)) (m .vertices); made = R .vertices; count = vertex-count; row = vertex-row; place = vertex-place; pos = vertex-pos }
+        record { in-list = listed (keyBefore (m .vertices)) (m .vertices); made = R .vertices; count = vertex-count; row = vertex-row; place = vertex-place; pos = vertex-pos held }
 
     arc-kin : Kin (m .arcs) (n .arcs) (body held 1) (arcRow held) (λ x. arcCells (arcRecord m x)) arcLinks arcTo
-    arc-kin = record { in-list = listed (arcBefore m) (m .arcs); made = R .arcs; count = arc-count; row = arc-row; place = arc-place; pos = arc-pos }
+    arc-kin = record { in-list = listed (arcBefore m) (m .arcs); made = R .arcs; count = arc-count; row = arc-row; place = arc-place; pos = arc-pos held }
 
     edge-kin : Kin (m .edges) (n .edges) (body held 2) (edgeRow held) (λ e. edgeCells (edgeRecord m e)) edgeLinks edgeTo
-    edge-kin = record { in-list = listed (keyBefore (m .edges)) (m .edges); made = R .edges; count = edge-count; row = edge-row; place = edge-place; pos = edge-pos }
+    edge-kin = record { in-list = listed (keyBefore (m .edges)) (m .edges); made = R .edges; count = edge-count; row = edge-row; place = edge-place; pos = edge-pos held }
 
     face-kin : Kin (m .faces) (n .faces) (body held 3) (faceRow held) (λ f. faceCells (faceRecord m f)) faceLinks faceTo
-    face-kin = record { in-list = listed (keyBefore (m .faces)) (m .faces); made = R .faces; count = face-count; row = face-row; place = face-place; pos = face-pos }
+    face-kin = record { in-list = listed (keyBefore (m .faces)) (m .faces); made = R .faces; count = face-count; row = face-row; place = face-place; pos = face-pos held }
 
     -- a vertex's row
     vertex-key-to : (v : ℕ) → IsVertex m v → keyAt (n .vertices) (vertexTo v) ≡ key v

@@ -27,7 +27,7 @@ use Rattle.proved.proofs.Clauses.{facts}
 use Rattle.file.specs.File.{Contents, bytesOnly, rowFits, schema, bodiesFit, contentsFit, counterWidths, keyCells, contentsIn, fileText, lengthFits, inPlace, risesBy, rising, allRise, noneCell, keyCell, vertexCells, arcCells, edgeCells, faceCells, contentsOf, fileOf, body, nowhere, orNowhere, hasKey, hasEnds, byKey, byEnds, unlessNone, vertexRow, positionRow, arcRow, edgeRow, faceRow, meshOf, tablesHold, readNumber, sizesServe, readFile}
 use Rattle.file.proofs.Whole.{file-back, contents-fit, keys-rise}
 use Rattle.file.proofs.Rows.{spelled, spells, upFrom, used-links, already-in-order, map-up, Found, found-there, or-nowhere-pos}
-use Rattle.file.proofs.Rowed.{RowsOf, Rowed, rowed}
+use Rattle.file.proofs.Rowed.{RowsOf, Rowed, rowed, by-key-pos, by-ends-pos, FirstCell, vertex-pos, arc-pos, edge-pos, face-pos, row-used}
 
 -- ---- coordinates
 
@@ -106,15 +106,6 @@ pub unless-some : (k l : ℕ) → (k ≡ noneCell → ⊥) → unlessNone k l �
 unfolding unlessNone
 unless-some k l h = rw (ne-eqb k noneCell h)
 
--- a name leads somewhere, be it nowhere
-pub by-key-pos : (c : Contents) (kind k : ℕ) → byKey c kind k ≡ 0 → ⊥
-unfolding byKey
-by-key-pos c kind k e = or-nowhere-pos (firstRow (hasKey k) (body c kind)) e
-
-pub by-ends-pos : (c : Contents) (s d : ℕ) → byEnds c s d ≡ 0 → ⊥
-unfolding byEnds
-by-ends-pos c s d e = or-nowhere-pos (firstRow (hasEnds s d) (body c 1)) e
-
 -- the cell of a key, or of none
 pub none-cell : (t : Table) → keyCell (keyName t 0) 0 ≡ noneCell
 unfolding keyName keyCell
@@ -132,7 +123,7 @@ key-named t rows few keys k u =
     ap (λ (z : ℕ). keyAt t z) (f .link-is) ∙ keys (f .place) (f .within) ∙ eqb→eq (getD (getD rows (f .place) []) 0 0) k (true-T (f .passes))
 
 -- a table's first rows are in use, and no others
-in-use : (rows t : Table) (make : List ℕ → List ℕ) → RowsOf rows make t → ((r : List ℕ) → getD (make r) 0 0 ≡ 0 → ⊥)
+in-use : (rows t : Table) (make : List ℕ → List ℕ) → RowsOf rows make t → FirstCell make
     → usedFrom t 1 t ≡ upFrom 1 (length rows)
 in-use rows t make R pos = used-links t 1 (length rows) t (R .few) each
   where
@@ -200,36 +191,17 @@ module _ (c : Contents) (n : Mesh) (R : Rowed c n) (S : SoundFacts n) where
   face-key i l = ap (λ (z : ℕ). z - 1) (R .faces .cells i 0 l) ∙ row-link (getD (getD (body c 3) i []) 0 0)
 
   -- each row of a record is in use
-  vertex-pos : (r : List ℕ) → getD (vertexRow c r) 0 0 ≡ 0 → ⊥
-  unfolding vertexRow
-  vertex-pos r e = omega arith
-
-  edge-pos : (r : List ℕ) → getD (edgeRow c r) 0 0 ≡ 0 → ⊥
-  unfolding edgeRow
-  edge-pos r e = omega arith
-
-  face-pos : (r : List ℕ) → getD (faceRow c r) 0 0 ≡ 0 → ⊥
-  unfolding faceRow
-  face-pos r e = omega arith
-
-  arc-pos : (r : List ℕ) → getD (arcRow c r) 0 0 ≡ 0 → ⊥
-  unfolding arcRow byKey
-  arc-pos r e = or-nowhere-pos (firstRow (hasKey (getD r 0 0)) (body c 0)) e
-
-  is-used : (rows t : Table) (make : List ℕ → List ℕ) → RowsOf rows make t → ((r : List ℕ) → getD (make r) 0 0 ≡ 0 → ⊥) → (i : ℕ) → i < length rows → T (there t (i + 1))
-  is-used rows t make Q pos i l = differ-T (cell t (i + 1) 0) 0 (λ e. pos (getD rows i []) (sym (Q .cells i 0 l) ∙ e))
-
   is-vertex : (i : ℕ) → i < length (body c 0) → IsVertex n (i + 1)
-  is-vertex i l = is-used (body c 0) (n .vertices) (vertexRow c) (R .vertices) vertex-pos i l
+  is-vertex i l = row-used (body c 0) (n .vertices) (vertexRow c) (R .vertices) (vertex-pos c) i l
 
   is-arc : (i : ℕ) → i < length (body c 1) → IsArc n (i + 1)
-  is-arc i l = is-used (body c 1) (n .arcs) (arcRow c) (R .arcs) arc-pos i l
+  is-arc i l = row-used (body c 1) (n .arcs) (arcRow c) (R .arcs) (arc-pos c) i l
 
   is-edge : (i : ℕ) → i < length (body c 2) → IsEdge n (i + 1)
-  is-edge i l = is-used (body c 2) (n .edges) (edgeRow c) (R .edges) edge-pos i l
+  is-edge i l = row-used (body c 2) (n .edges) (edgeRow c) (R .edges) (edge-pos c) i l
 
   is-face : (i : ℕ) → i < length (body c 3) → IsFace n (i + 1)
-  is-face i l = is-used (body c 3) (n .faces) (faceRow c) (R .faces) face-pos i l
+  is-face i l = row-used (body c 3) (n .faces) (faceRow c) (R .faces) (face-pos c) i l
 
   -- links that are there
   vertex-named : (k : ℕ) → IsVertex n (byKey c 0 k) → keyAt (n .vertices) (byKey c 0 k) ≡ k
@@ -497,28 +469,28 @@ module _ (c : Contents) (n : Mesh) (R : Rowed c n) (S : SoundFacts n) where
 
       vertices : map vertexCells (map (vertexRecord n) (inOrder (keyBefore (n .vertices)) (usedFrom (n .vertices) 1 (n .vertices)))) ≡ body c 0
       vertices =
-          ap (λ (l : List ℕ). map vertexCells (map (vertexRecord n) (inOrder (keyBefore (n .vertices)) l))) (in-use (body c 0) (n .vertices) (vertexRow c) (R .vertices) vertex-pos)
+          ap (λ (l : List ℕ). map vertexCells (map (vertexRecord n) (inOrder (keyBefore (n .vertices)) l))) (in-use (body c 0) (n .vertices) (vertexRow c) (R .vertices) (vertex-pos c))
           ∙ ap (λ (l : List ℕ). map vertexCells (map (vertexRecord n) l)) (already-in-order (keyBefore (n .vertices)) 1 (length (body c 0)) (key-order (n .vertices) (body c 0) vertex-key (body-rise 0 (omega arith))))
           ∙ map-up vertexCells (vertexRecord n) (body c 0) 1
           (λ i l. ap (λ (z : ℕ). vertexCells (vertexRecord n z)) (link i) ∙ vertex-back i l (row-fit (getD schema 0 []) (body c 0) (body-fit 0 (omega arith)) i l))
 
       arcs : map arcCells (map (arcRecord n) (inOrder (arcBefore n) (usedFrom (n .arcs) 1 (n .arcs)))) ≡ body c 1
       arcs =
-          ap (λ (l : List ℕ). map arcCells (map (arcRecord n) (inOrder (arcBefore n) l))) (in-use (body c 1) (n .arcs) (arcRow c) (R .arcs) arc-pos)
+          ap (λ (l : List ℕ). map arcCells (map (arcRecord n) (inOrder (arcBefore n) l))) (in-use (body c 1) (n .arcs) (arcRow c) (R .arcs) (arc-pos c))
           ∙ ap (λ (l : List ℕ). map arcCells (map (arcRecord n) l)) (already-in-order (arcBefore n) 1 (length (body c 1)) (arc-order (body-rise 1 (omega arith))))
           ∙ map-up arcCells (arcRecord n) (body c 1) 1
           (λ i l. ap (λ (z : ℕ). arcCells (arcRecord n z)) (link i) ∙ arc-back i l (row-fit (getD schema 1 []) (body c 1) (body-fit 1 (omega arith)) i l))
 
       edges : map edgeCells (map (edgeRecord n) (inOrder (keyBefore (n .edges)) (usedFrom (n .edges) 1 (n .edges)))) ≡ body c 2
       edges =
-          ap (λ (l : List ℕ). map edgeCells (map (edgeRecord n) (inOrder (keyBefore (n .edges)) l))) (in-use (body c 2) (n .edges) (edgeRow c) (R .edges) edge-pos)
+          ap (λ (l : List ℕ). map edgeCells (map (edgeRecord n) (inOrder (keyBefore (n .edges)) l))) (in-use (body c 2) (n .edges) (edgeRow c) (R .edges) (edge-pos c))
           ∙ ap (λ (l : List ℕ). map edgeCells (map (edgeRecord n) l)) (already-in-order (keyBefore (n .edges)) 1 (length (body c 2)) (key-order (n .edges) (body c 2) edge-key (body-rise 2 (omega arith))))
           ∙ map-up edgeCells (edgeRecord n) (body c 2) 1
           (λ i l. ap (λ (z : ℕ). edgeCells (edgeRecord n z)) (link i) ∙ edge-back i l (row-fit (getD schema 2 []) (body c 2) (body-fit 2 (omega arith)) i l))
 
       faces : map faceCells (map (faceRecord n) (inOrder (keyBefore (n .faces)) (usedFrom (n .faces) 1 (n .faces)))) ≡ body c 3
       faces =
-          ap (λ (l : List ℕ). map faceCells (map (faceRecord n) (inOrder (keyBefore (n .faces)) l))) (in-use (body c 3) (n .faces) (faceRow c) (R .faces) face-pos)
+          ap (λ (l : List ℕ). map faceCells (map (faceRecord n) (inOrder (keyBefore (n .faces)) l))) (in-use (body c 3) (n .faces) (faceRow c) (R .faces) (face-pos c))
           ∙ ap (λ (l : List ℕ). map faceCells (map (faceRecord n) l)) (already-in-order (keyBefore (n .faces)) 1 (length (body c 3)) (key-order (n .faces) (body c 3) face-key (body-rise 3 (omega arith))))
           ∙ map-up faceCells (faceRecord n) (body c 3) 1
           (λ i l. ap (λ (z : ℕ). faceCells (faceRecord n z)) (link i) ∙ face-back i l (row-fit (getD schema 3 []) (body c 3) (body-fit 3 (omega arith)) i l))

@@ -1,6 +1,7 @@
 -- The mesh that a file holds, row by row: row i of each table is record i of its body, and further rows are unused.
 use Prim.Native.Nat.{ℕ, zero, suc, _+_, _-_, _*_, _^_, _≤_, _<_}
 use native.Mathlib.Omega.{arith}
+use native.Mathlib.Decide.{decLt}
 use mathlib.Core.Path.{_≡_, refl, ap, sym, subst, _∙_}
 use mathlib.Core.Bool.{Bool, true, false, not, _&&_}
 use mathlib.Core.List.{List, [], _∷_, map}
@@ -8,12 +9,13 @@ use lib.ListN.{length, getD, replicate}
 use lib.Ieee.{Float}
 use lib.Dec.{T, eqb, leb, leb→le}
 use lib.Ieee.Fits.{and-l, and-r}
-use Rattle.rules.specs.Table.{Table, cell}
+use Rattle.rules.specs.Table.{Table, cell, firstRow, there}
 use Rattle.rules.specs.Mesh.{Mesh}
 use Rattle.rules.specs.Point.{zeroFloat}
-use Rattle.proved.proofs.Rows.{cell-row}
-use Rattle.file.specs.File.{Contents, body, vertexRow, positionRow, arcRow, edgeRow, faceRow, filled, meshOf, tablesHold}
-use Rattle.file.proofs.Rows.{filled-length, filled-row, filled-past, filled-rest}
+use Rattle.proved.specs.Facts.{UnusedZero}
+use Rattle.proved.proofs.Rows.{cell-row, cell-none, differ-T}
+use Rattle.file.specs.File.{Contents, body, hasKey, hasEnds, byKey, byEnds, vertexRow, positionRow, arcRow, edgeRow, faceRow, filled, meshOf, tablesHold}
+use Rattle.file.proofs.Rows.{or-nowhere-pos, filled-length, filled-row, filled-past, filled-rest}
 
 -- a table whose row i is made of record i, and whose further rows are unused
 pub record RowsOf (rows : Table) (make : List ℕ → List ℕ) (t : Table) : Type 0 where
@@ -65,3 +67,49 @@ rowed lent c h =
       positions-past = λ i h l. filled-rest (length (lent .positions)) (zeroFloat ∷ zeroFloat ∷ zeroFloat ∷ []) positionRow (body c 0) i [] h l;
       counters = refl;
     }
+
+-- ---- a row of a record is in use, and no other
+
+-- a name leads somewhere, be it nowhere
+pub by-key-pos : (c : Contents) (kind k : ℕ) → byKey c kind k ≡ 0 → ⊥
+unfolding byKey
+by-key-pos c kind k e = or-nowhere-pos (firstRow (hasKey k) (body c kind)) e
+
+pub by-ends-pos : (c : Contents) (s d : ℕ) → byEnds c s d ≡ 0 → ⊥
+unfolding byEnds
+by-ends-pos c s d e = or-nowhere-pos (firstRow (hasEnds s d) (body c 1)) e
+
+-- a row's first cell is not 0
+abbrev pub FirstCell : (List ℕ → List ℕ) → Type 0
+FirstCell make = (r : List ℕ) → getD (make r) 0 0 ≡ 0 → ⊥
+
+pub vertex-pos : (c : Contents) → FirstCell (vertexRow c)
+unfolding vertexRow
+vertex-pos c r e = omega arith
+
+pub edge-pos : (c : Contents) → FirstCell (edgeRow c)
+unfolding edgeRow
+edge-pos c r e = omega arith
+
+pub face-pos : (c : Contents) → FirstCell (faceRow c)
+unfolding faceRow
+face-pos c r e = omega arith
+
+pub arc-pos : (c : Contents) → FirstCell (arcRow c)
+unfolding arcRow
+arc-pos c r e = by-key-pos c 0 (getD r 0 0) e
+
+pub row-used : (rows t : Table) (make : List ℕ → List ℕ) → RowsOf rows make t → FirstCell make → (i : ℕ) → i < length rows → T (there t (i + 1))
+row-used rows t make Q pos i l = differ-T (cell t (i + 1) 0) 0 (λ e. pos (getD rows i []) (sym (Q .cells i 0 l) ∙ e))
+
+-- rows that are not of a record are zero
+pub others-zero : (rows t : Table) (make : List ℕ → List ℕ) → RowsOf rows make t → FirstCell make → UnusedZero t
+others-zero rows t make Q pos zero k h = cell-none t k
+others-zero rows t make Q pos (suc i) k h = go (decLt i (length rows))
+  where
+    link : suc i ≡ i + 1
+    link = omega arith
+
+    go : Dec (i < length rows) → cell t (suc i) k ≡ 0
+    go (yes l) = absurd (h (subst (λ (z : ℕ). T (there t z)) (sym link) (row-used rows t make Q pos i l)))
+    go (no l) = ap (λ (z : ℕ). cell t z k) link ∙ Q .past i k (omega arith)
