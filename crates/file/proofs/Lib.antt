@@ -10,3 +10,4 @@ pub mod Placed
 pub mod Renamed
 pub mod Moved
 pub mod WriteRead
+pub mod Calls

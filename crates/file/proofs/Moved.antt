@@ -19,7 +19,7 @@ use Rattle.rules.proofs.Scan.{first-passes}
 use Rattle.proved.specs.Facts.{IsVertex, IsArc, IsEdge, IsFace, Sizes, KeysDiffer, UnusedZero, coordinate, SoundFacts}
 use Rattle.proved.proofs.Rows.{true-T, differ-T, row-link, link-row, cell-none, in-table}
 use Rattle.file.specs.File.{Contents, noneCell, keyCell, vertexCells, arcCells, edgeCells, faceCells, contentsOf, body, orNowhere, nowhere, hasKey, hasEnds, byKey, byEnds, unlessNone, vertexRow, positionRow, arcRow, edgeRow, faceRow}
-use Rattle.file.specs.Stored.{Stored}
+use Rattle.file.specs.Promises.{Stored}
 use Rattle.file.proofs.Rowed.{RowsOf, Rowed, FirstCell, vertex-pos, arc-pos, edge-pos, face-pos}
 use Rattle.file.proofs.ReadWrite.{unless-none, unless-some, none-cell, some-cell}
 use Rattle.file.proofs.Told.{linksIn, vertex-low, edge-low, face-low, starts-at, ends-at, no-arc, position-here, bits-tell, face-arc}

@@ -18,7 +18,7 @@ use Rattle.rules.proofs.Sums.{or-l, or-r}
 use Rattle.proved.specs.Facts.{SoundFacts, IsArc}
 use Rattle.proved.proofs.Rows.{true-T, T-true, same-T, all-from}
 use Rattle.file.specs.File.{Contents, cellText, rowText, total, rowFits, bodyText, bodyLength, schema, counterWidths, keyCells, places, bodiesText, headLength, fileText, countIn, offsetIn, contentsIn, bodiesFit, contentsFit, asked, lengthFits, placed, risesBy, rising, allRise, inPlace, keyCell, vertexCells, arcCells, edgeCells, faceCells, contentsOf, fileOf, body}
-use Rattle.file.specs.Stored.{Stored}
+use Rattle.file.specs.Promises.{Stored}
 use Rattle.file.proofs.Cells.{below-T, row-length, body-length}
 use Rattle.file.proofs.Whole.{entry-count, entry-offset, entry-rest, entry-before, places-length, counters-length, contents-back}
 use Rattle.file.proofs.Told.{linksIn, links-few, starts-at, ends-at, contents-of-fit}

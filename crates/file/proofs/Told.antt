@@ -25,7 +25,7 @@ use Rattle.proved.specs.Facts.{IsVertex, IsArc, IsEdge, IsFace, SoundFacts, coo
 use Rattle.proved.proofs.Rows.{true-T, link-row, in-table}
 use Rattle.proved.proofs.Clauses.{facts}
 use Rattle.file.specs.File.{Contents, rowFits, counterWidths, schema, bodiesFit, contentsFit, contentsIn, fileText, noneCell, keyCell, vertexCells, arcCells, edgeCells, faceCells, contentsOf, fileOf, body}
-use Rattle.file.specs.Stored.{Stored}
+use Rattle.file.specs.Promises.{Stored}
 use Rattle.file.proofs.Cells.{below-T}
 use Rattle.file.proofs.Whole.{contents-back}
 use Rattle.file.proofs.ReadWrite.{position-is, cell-fits-at, none-cell, some-cell}

@@ -23,7 +23,7 @@ use Rattle.proved.proofs.Rows.{T-true, true-T, row-link, link-row, cell-none, e
 use Rattle.proved.proofs.SoundParts.{sizes}
 use Rattle.proved.proofs.Clauses.{facts, sound-from}
 use Rattle.file.specs.File.{Contents, rowFits, schema, bodiesFit, contentsFit, contentsIn, fileText, lengthFits, inPlace, vertexCells, arcCells, edgeCells, faceCells, contentsOf, fileOf, body, vertexRow, positionRow, arcRow, edgeRow, faceRow, filled, meshOf, sizesServe, tablesHold, readNumber, readFile, bytesOnly, places, rowText, counterWidths, bodiesText, bodyText}
-use Rattle.file.specs.Stored.{Stored, Enough}
+use Rattle.file.specs.Promises.{Stored, Enough, SameRead}
 use Rattle.file.proofs.Cells.{bytes-append, bytes-none, row-bytes, body-bytes}
 use Rattle.file.proofs.Whole.{contents-back, places-bytes}
 use Rattle.file.proofs.Rows.{filled-length}
@@ -196,17 +196,11 @@ file-bytes m =
 
 -- ---- the statement
 
--- what reading the file of m answers and leaves: it is accepted, and the mesh is sound, with the records and counters of m
-pub record Same (lent m : Mesh) (one two : Room) : Type 0 where
-  pub accepted : readFile lent one two (fileOf m) .number ≡ 0
-  pub is-sound : T (sound (readFile lent one two (fileOf m) .mesh))
-  pub same-records : records (readFile lent one two (fileOf m) .mesh) ≡ records m
-
 serves-sizes : (lent : Mesh) (one two : Room) → T (sizesServe lent one two) → Sizes lent
 unfolding sizesServe
 serves-sizes lent one two h = sizes lent (and-l (withinLimits lent) (roomEnough lent one && roomEnough lent two) h)
 
-pub write-read : (m lent : Mesh) (one two : Room) → T (sound m) → Stored m → T (sizesServe lent one two) → Enough lent m → Same lent m one two
+pub write-read : (m lent : Mesh) (one two : Room) → T (sound m) → Stored m → T (sizesServe lent one two) → Enough lent m → SameRead lent m one two
 write-read m lent one two sm hm serve room =
     record { accepted = accepted; is-sound = subst (λ (k : Mesh). T (sound k)) (sym leaves) sound-n; same-records = ap records leaves ∙ same }
   where

@@ -1,3 +1,3 @@
 pub mod File
-pub mod Stored
+pub mod Promises
 pub mod Examples
