@@ -1,14 +1,13 @@
 -- What reading and writing a mesh file (request L3) answer and leave, from their definitions: each answer exactly where document 02 gives it.
-use Prim.Native.Nat.{ℕ, zero, suc, _+_, _-_, _≤_, _<_}
+use Prim.Native.Nat.{ℕ, _≤_, _<_}
 use native.Mathlib.Omega.{arith}
 use mathlib.Core.Path.{_≡_, refl, ap, sym, subst, _∙_}
 use native.Mathlib.Decide.{decLt}
 use mathlib.Core.Logic.{_↔_}
 use mathlib.Core.Bool.{Bool, true, false, not, cond}
-use mathlib.Core.List.{List, [], _∷_, _++_}
 use lib.ListN.{length, take, drop, length-append, length-drop}
 use lib.Seq.{take-append-seam, drop-append-seam}
-use lib.Dec.{T, eqb, ltb, ltb→lt, T-not, not-T, nltb→le}
+use lib.Dec.{T, eqb}
 use borrow.Author.Tests.{le-ltb, lt-ltb, ne-eqb}
 use Rattle.rules.specs.declared.Refusal.the-variants.{Tables, TopologyMalformed}
 use Rattle.rules.specs.declared.Answer.the-variants.{Done, Refused}
@@ -18,10 +17,9 @@ use Rattle.rules.specs.Step.{told, numberOf}
 use Rattle.rules.specs.Call.{zeroed, checkMesh, finished}
 use Rattle.rules.specs.Script.{Text}
 use Rattle.proved.proofs.Rows.{true-T, differ}
-use Rattle.file.specs.File.{FileRead, FileWritten, fileOf, lengthFits, inPlace, contentsIn, meshOf, sizesServe, tablesHold, readNumber, readFile, wrote, checkRefuses, writeFile}
+use Rattle.file.specs.File.{FileWritten, fileOf, lengthFits, inPlace, contentsIn, meshOf, sizesServe, tablesHold, readNumber, readFile, wrote, checkRefuses, writeFile}
 use Rattle.file.specs.Promises.{ReadAnswers, ReadLeaves, WriteLeaves}
-use Rattle.file.proofs.ReadWrite.{Passed, passed}
-use Rattle.file.proofs.Cells.{below-T}
+use Rattle.file.proofs.ReadWrite.{passed}
 
 -- ---- answers in order
 

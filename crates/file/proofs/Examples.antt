@@ -1,9 +1,5 @@
 -- Computed examples of the mesh file (request L3), one by one.
-use Prim.Native.Nat.{ℕ}
-use mathlib.Core.Path.{_≡_, refl}
-use mathlib.Core.Bool.{Bool, true, false}
-use mathlib.Core.List.{List, [], _∷_}
-use lib.ListN.{length}
+use mathlib.Core.Path.{refl}
 use Rattle.rules.specs.Table.{cell, firstRow, count, every, someBelow, allBelow, sumBelow, upTo, has, distinct}
 use Rattle.rules.specs.Mesh.{oppositeOf, findKey, arcBetween}
 use Rattle.rules.specs.Point.{exponentField, finiteNumber, zeroNumber, positionAt, finitePosition, finiteRow, zeroPositionRow}

@@ -1,18 +1,18 @@
 -- The used links of a table in order: each is in use, each used link is among them once, and each comes before the next.
-use Prim.Native.Nat.{ℕ, zero, suc, _+_, _-_, _≤_, _<_, zero-le, suc-le-suc}
+use Prim.Native.Nat.{ℕ, zero, suc, _+_, _≤_, _<_}
 use native.Mathlib.Nat.{le-of-suc-le-suc, not-suc-le-zero}
 use native.Mathlib.Omega.{arith}
 use native.Mathlib.Decide.{ℕ-discrete}
 use mathlib.Core.Path.{_≡_, refl, ap, sym, subst, _∙_}
 use mathlib.Core.Bool.{Bool, true, false, not, _&&_, _||_, cond}
-use mathlib.Core.List.{List, [], _∷_, map}
+use mathlib.Core.List.{List, [], _∷_}
 use lib.ListN.{length, getD}
-use lib.Dec.{T, eqb, leb, eqb→eq, eqb-refl, leb→le, le→leb, T-not}
+use lib.Dec.{T, eqb, leb, eqb→eq, eqb-refl, leb→le, le→leb}
 use lib.Ieee.Fits.{and-l, and-r, and-i}
 use Rattle.rules.specs.Table.{Table, there, every, has}
 use Rattle.rules.specs.Records.{usedFrom, putAmong, inOrder}
 use Rattle.rules.proofs.Sums.{or-l, or-r, or-cases}
-use Rattle.proved.proofs.Rows.{true-T, T-true, differ, differ-T, in-table, every-at}
+use Rattle.proved.proofs.Rows.{true-T, differ, differ-T, in-table, every-at}
 use Rattle.proved.proofs.Around.{has-place}
 use Rattle.file.proofs.Told.{linksIn, links-used, put-passes, order-passes}
 

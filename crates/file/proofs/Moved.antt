@@ -1,31 +1,30 @@
 -- A sound mesh and the mesh that its file holds: the same records, the i-th of a kind in row i. Its links go to the rows of their names.
-use Prim.Native.Nat.{ℕ, zero, suc, _+_, _-_, _*_, _^_, _≤_, _<_, zero-le, suc-le-suc}
-use native.Mathlib.Nat.{not-suc-le-zero}
+use Prim.Native.Nat.{ℕ, zero, suc, _+_, _-_, _<_}
 use native.Mathlib.Omega.{arith}
 use native.Mathlib.Decide.{ℕ-discrete, decLt}
 use mathlib.Core.Path.{_≡_, refl, ap, sym, subst, _∙_}
-use mathlib.Core.Bool.{Bool, true, false, not, _&&_, _||_, cond}
-use mathlib.Core.List.{List, [], _∷_, map}
+use mathlib.Core.Bool.{Bool, true, false, not}
+use mathlib.Core.List.{List, []}
 use lib.ListN.{length, getD}
-use lib.Dec.{T, eqb, eqb→eq, eqb-refl}
+use lib.Dec.{T, eqb}
 use lib.Ieee.{Float, nan, binary64, toBits, ofBits}
 use borrow.Author.Tests.{eq-eqb, ne-eqb}
 use Rattle.rules.specs.declared.Position.{Position}
 use Rattle.rules.specs.Table.{Table, cell, there, firstRow}
-use Rattle.rules.specs.Mesh.{Mesh, source, dest, next, previous, face, edge, leading, edgeArc, edgeOther, faceArc, mark, keyAt}
-use Rattle.rules.specs.Point.{positionAt, positionOf, zeroFloat}
+use Rattle.rules.specs.Mesh.{Mesh, source, dest, next, previous, face, edge, leading, edgeArc, edgeOther, faceArc, keyAt}
+use Rattle.rules.specs.Point.{positionAt, positionOf}
 use Rattle.rules.specs.Records.{arcName, keyName, vertexRecord, arcRecord, edgeRecord, faceRecord, keyBefore, arcBefore, records}
 use Rattle.rules.proofs.Scan.{first-passes}
-use Rattle.proved.specs.Facts.{IsVertex, IsArc, IsEdge, IsFace, Sizes, KeysDiffer, UnusedZero, coordinate, SoundFacts}
-use Rattle.proved.proofs.Rows.{true-T, differ-T, row-link, link-row, cell-none, in-table}
-use Rattle.file.specs.File.{Contents, noneCell, keyCell, vertexCells, arcCells, edgeCells, faceCells, contentsOf, body, orNowhere, nowhere, hasKey, hasEnds, byKey, byEnds, unlessNone, vertexRow, positionRow, arcRow, edgeRow, faceRow}
+use Rattle.proved.specs.Facts.{IsVertex, IsArc, IsEdge, IsFace, KeysDiffer, coordinate, SoundFacts}
+use Rattle.proved.proofs.Rows.{differ-T, row-link, in-table}
+use Rattle.file.specs.File.{Contents, keyCell, vertexCells, arcCells, edgeCells, faceCells, contentsOf, body, orNowhere, hasKey, hasEnds, byKey, byEnds, unlessNone, vertexRow, positionRow, arcRow, edgeRow, faceRow}
 use Rattle.file.specs.Promises.{Stored}
 use Rattle.file.proofs.Rowed.{RowsOf, Rowed, FirstCell, vertex-pos, arc-pos, edge-pos, face-pos}
 use Rattle.file.proofs.ReadWrite.{unless-none, unless-some, none-cell, some-cell}
-use Rattle.file.proofs.Told.{linksIn, vertex-low, edge-low, face-low, starts-at, ends-at, no-arc, position-here, bits-tell, face-arc}
+use Rattle.file.proofs.Told.{linksIn, vertex-low, face-low, starts-at, ends-at, no-arc, position-here, bits-tell, face-arc}
 use Rattle.file.proofs.Listed.{Listed, listed}
 use Rattle.file.proofs.Placed.{cells-at, cells-count}
-use Rattle.file.proofs.Renamed.{OneToOne, Carried, Renamed, RestZero}
+use Rattle.file.proofs.Renamed.{OneToOne, Carried, Renamed}
 
 -- ---- one kind
 

@@ -4,20 +4,19 @@ use native.Mathlib.Nat.{le-of-suc-le-suc, not-suc-le-zero}
 use native.Mathlib.Omega.{arith}
 use native.Mathlib.Decide.{ℕ-discrete, decLt}
 use mathlib.Core.Path.{_≡_, refl, ap, sym, subst, _∙_}
-use mathlib.Core.Bool.{Bool, true, false, not, _&&_, _||_}
-use mathlib.Core.List.{List, [], _∷_, _++_, map, append-assoc}
-use lib.ListN.{length, getD, drop, length-append, length-map}
-use lib.Dec.{T, eqb, ltb, leb, ltb→lt, eqb→eq, eqb-refl, le→leb}
+use mathlib.Core.Bool.{Bool, true, false, _&&_, _||_}
+use mathlib.Core.List.{List, [], _∷_, _++_, map}
+use lib.ListN.{length, getD, length-append, length-map}
+use lib.Dec.{T, eqb, ltb, leb, ltb→lt, eqb-refl, le→leb}
 use lib.Ieee.Fits.{and-l, and-r, and-i, eq→eqb}
-use borrow.Author.Tests.{lt-ltb, le-ltb}
-use Rattle.rules.specs.Table.{Table, there, every, allBelow}
+use Rattle.rules.specs.Table.{Table, there, every}
 use Rattle.rules.specs.Mesh.{Mesh, source, dest, keyAt}
-use Rattle.rules.specs.Records.{vertexRecord, arcRecord, edgeRecord, faceRecord, keyBefore, arcBefore, arcName, records}
+use Rattle.rules.specs.Records.{vertexRecord, arcRecord, edgeRecord, faceRecord, keyBefore, arcBefore, records}
 use Rattle.rules.specs.Script.{Text}
 use Rattle.rules.proofs.Sums.{or-l, or-r}
-use Rattle.proved.specs.Facts.{SoundFacts, IsArc}
-use Rattle.proved.proofs.Rows.{true-T, T-true, same-T, all-from}
-use Rattle.file.specs.File.{Contents, cellText, rowText, total, rowFits, bodyText, bodyLength, schema, counterWidths, keyCells, places, bodiesText, headLength, fileText, countIn, offsetIn, contentsIn, bodiesFit, contentsFit, asked, lengthFits, placed, risesBy, rising, allRise, inPlace, keyCell, vertexCells, arcCells, edgeCells, faceCells, contentsOf, fileOf, body}
+use Rattle.proved.specs.Facts.{SoundFacts}
+use Rattle.proved.proofs.Rows.{same-T, all-from}
+use Rattle.file.specs.File.{Contents, rowText, total, rowFits, bodyText, bodyLength, schema, counterWidths, keyCells, places, bodiesText, headLength, fileText, contentsIn, bodiesFit, contentsFit, asked, lengthFits, placed, risesBy, rising, allRise, inPlace, vertexCells, arcCells, edgeCells, faceCells, contentsOf, fileOf}
 use Rattle.file.specs.Promises.{Stored}
 use Rattle.file.proofs.Cells.{below-T, row-length, body-length}
 use Rattle.file.proofs.Whole.{entry-count, entry-offset, entry-rest, entry-before, places-length, counters-length, contents-back}

@@ -1,32 +1,32 @@
 -- "Each accepted file is what the writer would write": the mesh that reading an accepted file leaves has that file. Row i of each of its
 -- tables is record i of its body, keys rise, so the order of rows is the order of records; and each link reads back as the name it came from.
-use Prim.Native.Nat.{ℕ, zero, suc, _+_, _-_, _*_, _^_, _≤_, _<_, zero-le, suc-le-suc}
+use Prim.Native.Nat.{ℕ, zero, suc, _+_, _-_, _^_, _≤_, _<_}
 use native.Mathlib.Nat.{le-of-suc-le-suc, not-suc-le-zero}
 use native.Mathlib.Omega.{arith}
 use native.Mathlib.Decide.{decLt, ℕ-discrete}
 use mathlib.Core.Path.{_≡_, refl, ap, sym, subst, _∙_}
-use mathlib.Core.Bool.{Bool, true, false, not, _&&_, _||_, cond}
-use mathlib.Core.List.{List, [], _∷_, _++_, map}
+use mathlib.Core.Bool.{Bool, true, false, not, _&&_, _||_}
+use mathlib.Core.List.{List, [], _∷_, map}
 use lib.ListN.{length, getD, drop}
-use lib.Dec.{T, eqb, ltb, leb, eqb→eq, ltb→lt, not-T, T-not}
-use lib.Ieee.{Float, nan, inf, fin, isNan, binary64, top, toBits, ofBits}
+use lib.Dec.{T, eqb, ltb, eqb→eq, ltb→lt, not-T}
+use lib.Ieee.{Float, nan, inf, fin, isNan, binary64, toBits, ofBits}
 use lib.Ieee.Bits.{toBits-ofBits}
-use lib.Ieee.Fits.{and-l, and-r, and-i}
+use lib.Ieee.Fits.{and-l, and-r}
 use borrow.Author.Tests.{lt-ltb, le-ltb, eq-eqb, ne-eqb}
 use Rattle.rules.specs.declared.Position.{Position}
-use Rattle.rules.specs.Table.{Table, cell, firstRow, every, allBelow, there, times}
+use Rattle.rules.specs.Table.{Table, cell, firstRow, every, there, times}
 use Rattle.rules.specs.Mesh.{Mesh, Room, source, dest, next, previous, face, edge, leading, edgeArc, faceArc, mark, keyAt}
 use Rattle.rules.specs.Point.{exponentField, positionAt, positionOf}
 use Rattle.rules.specs.Records.{arcName, keyName, vertexRecord, arcRecord, edgeRecord, faceRecord, usedFrom, inOrder, keyBefore, arcBefore, records}
 use Rattle.rules.specs.Sound.{sound}
 use Rattle.rules.specs.Script.{Text}
 use Rattle.rules.proofs.Sums.{all-at}
-use Rattle.proved.specs.Facts.{IsVertex, IsArc, IsEdge, IsFace, SoundFacts, coordinate}
-use Rattle.proved.proofs.Rows.{T-true, true-T, differ-T, row-link, cell-row, every-at}
+use Rattle.proved.specs.Facts.{IsVertex, IsArc, IsEdge, IsFace, SoundFacts}
+use Rattle.proved.proofs.Rows.{true-T, row-link, every-at}
 use Rattle.proved.proofs.Clauses.{facts}
-use Rattle.file.specs.File.{Contents, bytesOnly, rowFits, schema, bodiesFit, contentsFit, counterWidths, keyCells, contentsIn, fileText, lengthFits, inPlace, risesBy, rising, allRise, noneCell, keyCell, vertexCells, arcCells, edgeCells, faceCells, contentsOf, fileOf, body, nowhere, orNowhere, hasKey, hasEnds, byKey, byEnds, unlessNone, vertexRow, positionRow, arcRow, edgeRow, faceRow, meshOf, tablesHold, readNumber, sizesServe, readFile}
+use Rattle.file.specs.File.{Contents, bytesOnly, rowFits, schema, bodiesFit, contentsFit, counterWidths, keyCells, contentsIn, fileText, lengthFits, inPlace, risesBy, rising, allRise, noneCell, keyCell, vertexCells, arcCells, edgeCells, faceCells, contentsOf, fileOf, body, orNowhere, hasKey, hasEnds, byKey, byEnds, unlessNone, vertexRow, positionRow, arcRow, edgeRow, faceRow, meshOf, tablesHold, readNumber, sizesServe, readFile}
 use Rattle.file.proofs.Whole.{file-back, contents-fit, keys-rise}
-use Rattle.file.proofs.Rows.{spelled, spells, upFrom, used-links, already-in-order, map-up, Found, found-there, or-nowhere-pos}
+use Rattle.file.proofs.Rows.{spells, upFrom, used-links, already-in-order, map-up, found-there}
 use Rattle.file.proofs.Rowed.{RowsOf, Rowed, rowed, by-key-pos, by-ends-pos, FirstCell, vertex-pos, arc-pos, edge-pos, face-pos, row-used}
 
 -- ---- coordinates

@@ -1,20 +1,19 @@
 -- A mesh whose rows are another's in other places: links of each kind are mapped one to one between used rows, and cells are carried over.
 -- If the one is sound, so is the other, clause by clause.
-use Prim.Native.Nat.{ℕ, zero, suc, _+_, _-_, _*_, _≤_, _<_}
-use native.Mathlib.Nat.{not-suc-le-zero}
+use Prim.Native.Nat.{ℕ, zero, suc, _+_, _≤_, _<_}
 use native.Mathlib.Omega.{arith}
-use native.Mathlib.Decide.{ℕ-discrete, decLt}
+use native.Mathlib.Decide.{decLt}
 use mathlib.Core.Path.{_≡_, refl, ap, sym, subst, _∙_}
 use mathlib.Core.Logic.{_⊎_, inl, inr, ⊎-elim}
-use mathlib.Core.Bool.{Bool, true, false, not}
-use mathlib.Core.List.{List, [], _∷_, map}
+use mathlib.Core.Bool.{Bool, true, false}
+use mathlib.Core.List.{List, []}
 use lib.ListN.{length, getD}
 use lib.Dec.{T}
 use lib.Ieee.{binary64, toBits}
-use Rattle.rules.specs.Table.{Table, there, has, distinct, times}
+use Rattle.rules.specs.Table.{Table, there, has, distinct}
 use Rattle.rules.specs.Mesh.{Mesh, ringLimit, source, dest, next, previous, face, edge, leading, edgeArc, edgeOther, faceArc, keyAt}
 use Rattle.rules.specs.Point.{exponentField}
-use Rattle.rules.specs.Link.{ring, ringEnded}
+use Rattle.rules.specs.Link.{ring}
 use Rattle.rules.proofs.Counts.{bit}
 use Rattle.rules.proofs.Sums.{same-test, sum-ext, distinct-map, sum-list, count-sum}
 use Rattle.proved.specs.Demand.{holds, Holds, holders, onward}

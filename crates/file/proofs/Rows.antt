@@ -5,18 +5,18 @@ use native.Mathlib.Nat.{le-of-suc-le-suc, not-suc-le-zero}
 use native.Mathlib.Numerals.{add-one}
 use native.Mathlib.Omega.{arith}
 use native.Mathlib.Decide.{decLt, ℕ-discrete}
-use mathlib.Core.Path.{_≡_, refl, ap, sym, subst, _∙_}
-use mathlib.Core.Bool.{Bool, true, false, not, cond}
+use mathlib.Core.Path.{_≡_, refl, ap, sym, _∙_}
+use mathlib.Core.Bool.{Bool, true, false, cond}
 use mathlib.Core.List.{List, [], _∷_, _++_, map}
-use lib.ListN.{length, getD, drop, replicate, length-append, length-map, length-replicate, drop-of-length-le, List·getD-append, getD-replicate, List·getD-eq-default}
+use lib.ListN.{length, getD, drop, replicate, length-append, length-map, length-replicate, drop-of-length-le, getD-replicate}
 use lib.Seq.{drop-cons, getD-append-add}
-use lib.Dec.{T, eqb, ltb, T-not}
+use lib.Dec.{T, eqb, ltb}
 use borrow.Author.Tests.{lt-ltb, le-ltb, eq-eqb, ne-eqb}
-use Rattle.rules.specs.Table.{Table, cell, firstRow, there, used}
+use Rattle.rules.specs.Table.{Table, firstRow, there}
 use Rattle.rules.specs.Records.{usedFrom, putAmong, inOrder}
 use Rattle.rules.proofs.Scan.{first-le}
 use Rattle.rules.proofs.Counts.{found-passes}
-use Rattle.proved.proofs.Rows.{T-true, true-T, cell-row, there-row, in-table}
+use Rattle.proved.proofs.Rows.{in-table}
 use Rattle.file.specs.File.{filled, orNowhere, nowhere}
 
 -- ---- a list by its places

@@ -1,26 +1,23 @@
 -- "Two sound meshes have equal files exactly when their records and counters are equal": what a sound mesh's file holds fits its bytes, and
 -- tells its records.
-use Prim.Native.Nat.{ℕ, zero, suc, _+_, _-_, _*_, _^_, _≤_, _<_, zero-le, suc-le-suc}
-use native.Mathlib.Nat.{le-of-suc-le-suc, not-suc-le-zero}
+use Prim.Native.Nat.{ℕ, zero, suc, _+_, _-_, _^_, _≤_, _<_, zero-le, suc-le-suc}
 use native.Mathlib.Omega.{arith}
 use native.Mathlib.Decide.{ℕ-discrete}
-use mathlib.Core.Path.{_≡_, refl, ap, sym, subst, _∙_}
+use mathlib.Core.Path.{_≡_, refl, ap, sym, _∙_}
 use mathlib.Core.Logic.{_↔_}
-use mathlib.Core.Bool.{Bool, true, false, not, _&&_, _||_, cond}
-use mathlib.Core.List.{List, [], _∷_, _++_, map}
+use mathlib.Core.Bool.{Bool, true, false, _&&_, cond}
+use mathlib.Core.List.{List, [], _∷_, map}
 use lib.ListN.{length, getD, length-map}
 use lib.Dec.{T, eqb, ltb}
-use lib.Ieee.{Float, nan, binary64, top, toBits, ofBits}
+use lib.Ieee.{binary64, toBits, ofBits}
 use lib.Ieee.Bits.{ofBits-toBits, toBits-lt}
 use lib.Ieee.Fits.{and-l, and-r, and-i}
 use borrow.Author.Tests.{eq-eqb, ne-eqb}
-use Rattle.rules.specs.declared.Position.{Position}
-use Rattle.rules.specs.Table.{Table, cell, every, there, times}
+use Rattle.rules.specs.Table.{Table, every, there, times}
 use Rattle.rules.specs.Mesh.{Mesh, source, dest, next, previous, face, edge, leading, edgeArc, faceArc, mark, keyAt, nextKey}
 use Rattle.rules.specs.Point.{positionAt, positionOf, position}
 use Rattle.rules.specs.Records.{VertexRecord, ArcRecord, EdgeRecord, FaceRecord, Records, arcName, keyName, vertexRecord, arcRecord, edgeRecord, faceRecord, usedFrom, putAmong, inOrder, keyBefore, arcBefore, records}
 use Rattle.rules.specs.Sound.{sound}
-use Rattle.rules.specs.Script.{Text}
 use Rattle.proved.specs.Facts.{IsVertex, IsArc, IsEdge, IsFace, SoundFacts, coordinate}
 use Rattle.proved.proofs.Rows.{true-T, link-row, in-table}
 use Rattle.proved.proofs.Clauses.{facts}

@@ -1,19 +1,18 @@
 -- The mesh file (request L3) as a whole: what a file holds is read as it was written, and a file that fits and is in place is what the
 -- writer would write. Said once over the schema: nothing here names a body.
-use Prim.Native.Nat.{ℕ, zero, suc, _+_, _-_, _*_, _^_, _≤_, _<_}
+use Prim.Native.Nat.{ℕ, _+_, _^_, _≤_, _<_}
 use native.Mathlib.Omega.{arith}
 use mathlib.Core.Path.{_≡_, refl, ap, sym, subst, _∙_}
-use mathlib.Core.Bool.{Bool, true, false, _&&_}
+use mathlib.Core.Bool.{true, _&&_}
 use mathlib.Core.List.{List, [], _∷_, _++_, append-assoc, append-nil}
-use lib.ListN.{length, getD, take, drop, length-append, length-take, length-drop, take-append-drop}
+use lib.ListN.{length, getD, take, drop, length-append, length-drop, take-append-drop}
 use lib.Seq.{take-at, drop-at, take-add, drop-drop, take-all, length-take-le}
 use lib.Dec.{T, eqb, ltb, leb, ltb→lt, leb→le, eqb→eq}
 use lib.Ieee.Fits.{and-l, and-r, and-i}
 use Rattle.rules.specs.Table.{Table, every}
 use Rattle.rules.specs.Script.{Text}
-use Rattle.proved.proofs.Rows.{same-T}
-use Rattle.file.specs.File.{Contents, cellText, cellIn, bytesOnly, rowText, rowIn, total, rowFits, bodyText, bodyIn, bodyLength, schema, counterWidths, keyCells, places, bodiesText, headLength, fileText, countIn, offsetIn, bodiesIn, contentsIn, bodiesFit, contentsFit, asked, lengthFits, placed, rising, allRise, inPlace}
-use Rattle.file.proofs.Cells.{below-T, bytes-append, bytes-take, bytes-drop, bytes-none, cell-length, cell-bytes, cell-back, text-back, cell-fits, row-length, row-bytes, row-back, row-text-back, row-fits, body-length, body-bytes, body-count, body-back, body-text-back, body-fits}
+use Rattle.file.specs.File.{Contents, cellText, cellIn, bytesOnly, rowText, rowIn, total, rowFits, bodyText, bodyIn, bodyLength, schema, counterWidths, keyCells, places, bodiesText, headLength, fileText, countIn, offsetIn, bodiesIn, contentsIn, bodiesFit, contentsFit, asked, lengthFits, placed, allRise, inPlace}
+use Rattle.file.proofs.Cells.{below-T, bytes-append, bytes-take, bytes-drop, bytes-none, cell-length, cell-bytes, cell-back, text-back, row-length, row-back, row-text-back, row-fits, body-length, body-count, body-back, body-text-back, body-fits}
 
 -- ---- the table of contents
 

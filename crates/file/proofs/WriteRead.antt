@@ -1,33 +1,31 @@
 -- "Writing then reading gives the same records": the file of a sound mesh is accepted into tables that hold its records, and leaves them.
-use Prim.Native.Nat.{ℕ, zero, suc, _+_, _-_, _*_, _^_, _≤_, _<_, suc-le-suc}
+use Prim.Native.Nat.{ℕ, zero, suc, _+_, _-_, _^_, _≤_, _<_, suc-le-suc}
 use native.Mathlib.Omega.{arith}
 use native.Mathlib.Decide.{decLt}
 use mathlib.Core.Path.{_≡_, refl, ap, sym, subst, _∙_}
-use mathlib.Core.Bool.{Bool, true, false, not, _&&_, cond}
+use mathlib.Core.Bool.{Bool, true, false, _&&_, cond}
 use mathlib.Core.List.{List, [], _∷_, map}
-use lib.ListN.{length, getD, take, drop}
+use lib.ListN.{length, getD, drop}
 use lib.Dec.{T, leb, leb→le, le→leb}
 use lib.Ieee.{Float, nan, binary64, toBits, ofBits, fits}
 use lib.Ieee.Bits.{ofBits-fits}
 use lib.Ieee.Fits.{and-l, and-r, and-i}
-use Rattle.rules.specs.Table.{Table, cell, there, used, count}
+use Rattle.rules.specs.Table.{Table, there, used, count}
 use Rattle.rules.specs.Mesh.{Mesh, Room, mark}
 use Rattle.rules.specs.Point.{zeroFloat, exponentField}
-use Rattle.rules.specs.Records.{Records, vertexRecord, arcRecord, edgeRecord, faceRecord, usedFrom, inOrder, keyBefore, arcBefore, records}
+use Rattle.rules.specs.Records.{vertexRecord, arcRecord, edgeRecord, faceRecord, usedFrom, keyBefore, arcBefore, records}
 use Rattle.rules.specs.Sound.{withinLimits, sound}
 use Rattle.rules.specs.Call.{roomEnough}
-use Rattle.rules.specs.Script.{Text}
-use Rattle.rules.proofs.Counts.{count-cons}
 use Rattle.proved.specs.Facts.{IsVertex, Sizes, SoundFacts, coordinate}
-use Rattle.proved.proofs.Rows.{T-true, true-T, row-link, link-row, cell-none, every-at, there-row, in-table}
+use Rattle.proved.proofs.Rows.{T-true, link-row, cell-none, every-at, there-row}
 use Rattle.proved.proofs.SoundParts.{sizes}
 use Rattle.proved.proofs.Clauses.{facts, sound-from}
-use Rattle.file.specs.File.{Contents, rowFits, schema, bodiesFit, contentsFit, contentsIn, fileText, lengthFits, inPlace, vertexCells, arcCells, edgeCells, faceCells, contentsOf, fileOf, body, vertexRow, positionRow, arcRow, edgeRow, faceRow, filled, meshOf, sizesServe, tablesHold, readNumber, readFile, bytesOnly, places, rowText, counterWidths, bodiesText, bodyText}
+use Rattle.file.specs.File.{Contents, rowFits, schema, bodiesFit, contentsFit, contentsIn, fileText, lengthFits, inPlace, vertexCells, arcCells, edgeCells, faceCells, contentsOf, fileOf, body, vertexRow, positionRow, arcRow, edgeRow, faceRow, meshOf, sizesServe, tablesHold, readNumber, readFile, bytesOnly, places, rowText, counterWidths, bodiesText, bodyText}
 use Rattle.file.specs.Promises.{Stored, Enough, SameRead}
 use Rattle.file.proofs.Cells.{bytes-append, bytes-none, row-bytes, body-bytes}
 use Rattle.file.proofs.Whole.{contents-back, places-bytes}
 use Rattle.file.proofs.Rows.{filled-length}
-use Rattle.file.proofs.Rowed.{RowsOf, Rowed, rowed, vertex-pos, arc-pos, edge-pos, face-pos, row-used, others-zero}
+use Rattle.file.proofs.Rowed.{Rowed, rowed, vertex-pos, arc-pos, edge-pos, face-pos, row-used, others-zero}
 use Rattle.file.proofs.ReadWrite.{bits-back, cell-fits-at, body-rows-fit, read-write}
 use Rattle.file.proofs.Told.{linksIn, order-count, contents-of-fit, files-tell}
 use Rattle.file.proofs.Placed.{cells-count, bodies-of, file-fits, file-in-place}

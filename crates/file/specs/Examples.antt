@@ -1,11 +1,11 @@
 -- Small meshes and files that the computed examples of the mesh file (request L3) ask about.
-use Prim.Native.Nat.{ℕ, _+_, _-_, _*_}
+use Prim.Native.Nat.{ℕ}
 use mathlib.Core.Path.{_≡_}
-use mathlib.Core.Bool.{Bool, true, false}
-use mathlib.Core.List.{List, [], _∷_, _++_}
-use lib.ListN.{length, getD, set, take, drop, replicate}
+use mathlib.Core.Bool.{true}
+use mathlib.Core.List.{[], _∷_, _++_}
+use lib.ListN.{length, set, take, drop, replicate}
 use lib.Ieee.{Float, binary64, ofBits}
-use Rattle.rules.specs.Mesh.{Mesh, mesh, Room}
+use Rattle.rules.specs.Mesh.{Mesh, mesh}
 use Rattle.rules.specs.Script.{Text, emptyMesh, emptyRoom}
 use Rattle.rules.specs.Sound.{sound}
 use Rattle.file.specs.File.{fileOf, lengthFits, inPlace, readFile, writeFile}
