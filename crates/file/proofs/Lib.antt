@@ -11,3 +11,4 @@ pub mod Renamed
 pub mod Moved
 pub mod WriteRead
 pub mod Calls
+pub mod At

@@ -178,7 +178,8 @@ module _ (before : ℕ → ℕ → Bool) (t : Table) where
       go : (b : Bool) → T (apart (inOrder before (usedFrom t (l + 1) rs))) → T (apart (inOrder before (cond b (l ∷ usedFrom t (l + 1) rs) (usedFrom t (l + 1) rs))))
       go true h =
           put-apart before l (inOrder before (usedFrom t (l + 1) rs))
-          (every-so (λ y. leb (l + 1) y && there t y) (λ y. not (eqb l y)) (inOrder before (usedFrom t (l + 1) rs)) (λ y q. differ-T l y (λ e. omega (arith, above l y q))) (later l rs)) h
+          (every-so (λ y. leb (l + 1) y && there t y) (λ y. not (eqb l y)) (inOrder before (usedFrom t (l + 1) rs))
+          (λ y q. differ-T l y (λ e. omega (arith, above l y q))) (later l rs)) h
       go false h = h
 
   -- two used links are in order one way or the other

@@ -1,6 +1,7 @@
 -- The file that a sound mesh's writer writes: its length is what its counts ask, each body starts where the one before ends, and keys rise.
 use Prim.Native.Nat.{ℕ, zero, suc, _+_, _-_, _*_, _^_, _≤_, _<_}
 use native.Mathlib.Nat.{le-of-suc-le-suc, not-suc-le-zero}
+use native.Mathlib.Nat.{mul-le-mul-left}
 use native.Mathlib.Omega.{arith}
 use native.Mathlib.Decide.{ℕ-discrete, decLt}
 use mathlib.Core.Path.{_≡_, refl, ap, sym, subst, _∙_}
@@ -110,11 +111,14 @@ body-rises n cells of before t total rises =
     (subst (λ (r : List ℕ). T (risesBy n (cells (of (getD L i 0))) r)) (sym (cells-at cells of L (i + 1) b))
     (rises (getD L i 0) (getD L (i + 1) 0) (listed before t .each i a) (listed before t .each (i + 1) b) (in-order-at before t total i b))))
 
--- a body takes its records' bytes
-body-bound : (ws : List ℕ) (rows : Table) (l : List ℕ) (k n : ℕ) → total ws ≡ k → length rows ≡ length l → k * length l ≤ n → length (bodyText ws rows) ≤ n
+-- a body takes no more than its table's rows would
+body-bound : {B : Type 0} (ws : List ℕ) (cells : B → List ℕ) (of : ℕ → B) (before : ℕ → ℕ → Bool) (t : Table) (k : ℕ) → total ws ≡ k
+    → length (bodyText ws (map cells (map of (linksIn before t)))) ≤ k * length t
 unfolding bodyLength
-body-bound ws rows l k n e c h =
-    let long : length (bodyText ws rows) ≡ k * length l = body-length ws rows ∙ rw (e, c) in
+body-bound ws cells of before t k e =
+    let rows : Table = map cells (map of (linksIn before t)) in
+    let long : length (bodyText ws rows) ≡ k * length (linksIn before t) = body-length ws rows ∙ rw (e, cells-count cells of (linksIn before t)) in
+    let most : k * length (linksIn before t) ≤ k * length t = mul-le-mul-left k (links-few before t) in
     omega arith
 
 -- two keys that differ rise one way or the other
@@ -183,7 +187,8 @@ module _ (m : Mesh) (S : SoundFacts m) (H : Stored m) where
       go (yes e) =
           let s : source m x ≡ source m y = S .vertex-keys-differ (source m x) (source m y) (S .ends-exist x u .0) (S .ends-exist y w .0) e in
           two (k (source m x)) (k (source m y)) (ltb (k (dest m x)) (k (dest m y))) (ltb (k (dest m y)) (k (dest m x))) e
-          (either-less (k (dest m x)) (k (dest m y)) (λ d. ne (S .pairs-differ x y u w s (S .vertex-keys-differ (dest m x) (dest m y) (S .ends-exist x u .1) (S .ends-exist y w .1) d))))
+          (either-less (k (dest m x)) (k (dest m y))
+          (λ d. ne (S .pairs-differ x y u w s (S .vertex-keys-differ (dest m x) (dest m y) (S .ends-exist x u .1) (S .ends-exist y w .1) d))))
 
   arcs-rise : T (rising 2 (map arcCells (map (arcRecord m) (linksIn (arcBefore m) (m .arcs)))))
   arcs-rise = body-rises 2 arcCells (arcRecord m) (arcBefore m) (m .arcs) arc-total rises
@@ -219,24 +224,24 @@ module _ (m : Mesh) (S : SoundFacts m) (H : Stored m) where
   pub file-bound : 44 + length (bodiesText schema (contentsOf (records m) .bodies)) ≤ 688172
   unfolding contentsOf records bodiesText
   file-bound =
-      let Lv : List ℕ = linksIn (keyBefore (m .vertices)) (m .vertices) in
-      let La : List ℕ = linksIn (arcBefore m) (m .arcs) in
-      let Le : List ℕ = linksIn (keyBefore (m .edges)) (m .edges) in
-      let Lf : List ℕ = linksIn (keyBefore (m .faces)) (m .faces) in
-      let vs = map vertexCells (map (vertexRecord m) Lv) in
-      let xs = map arcCells (map (arcRecord m) La) in
-      let es = map edgeCells (map (edgeRecord m) Le) in
-      let fs = map faceCells (map (faceRecord m) Lf) in
+      let vs = map vertexCells (map (vertexRecord m) (linksIn (keyBefore (m .vertices)) (m .vertices))) in
+      let xs = map arcCells (map (arcRecord m) (linksIn (arcBefore m) (m .arcs))) in
+      let es = map edgeCells (map (edgeRecord m) (linksIn (keyBefore (m .edges)) (m .edges))) in
+      let fs = map faceCells (map (faceRecord m) (linksIn (keyBefore (m .faces)) (m .faces))) in
       let wv : List ℕ = 4 ∷ 8 ∷ 8 ∷ 8 ∷ 4 ∷ [] in
       let wa : List ℕ = 4 ∷ 4 ∷ 4 ∷ 4 ∷ 4 ∷ 4 ∷ [] in
       let we : List ℕ = 4 ∷ 4 ∷ 4 ∷ [] in
       let wf : List ℕ = 4 ∷ 4 ∷ 4 ∷ 4 ∷ [] in
-      let lv : length (bodyText wv vs) ≤ 131072 = body-bound wv vs Lv 32 131072 (unfold total in refl) (cells-count vertexCells (vertexRecord m) Lv) (omega (arith, links-few (keyBefore (m .vertices)) (m .vertices), S .sizes .vertex-rows)) in
-      let la : length (bodyText wa xs) ≤ 393216 = body-bound wa xs La 24 393216 (unfold total in refl) (cells-count arcCells (arcRecord m) La) (omega (arith, links-few (arcBefore m) (m .arcs), S .sizes .arc-rows, S .sizes .edge-rows)) in
-      let le : length (bodyText we es) ≤ 98304 = body-bound we es Le 12 98304 (unfold total in refl) (cells-count edgeCells (edgeRecord m) Le) (omega (arith, links-few (keyBefore (m .edges)) (m .edges), S .sizes .edge-rows)) in
-      let lf : length (bodyText wf fs) ≤ 65536 = body-bound wf fs Lf 16 65536 (unfold total in refl) (cells-count faceCells (faceRecord m) Lf) (omega (arith, links-few (keyBefore (m .faces)) (m .faces), S .sizes .face-rows)) in
+      let lv = body-bound wv vertexCells (vertexRecord m) (keyBefore (m .vertices)) (m .vertices) 32 (unfold total in refl) in
+      let la = body-bound wa arcCells (arcRecord m) (arcBefore m) (m .arcs) 24 (unfold total in refl) in
+      let le = body-bound we edgeCells (edgeRecord m) (keyBefore (m .edges)) (m .edges) 12 (unfold total in refl) in
+      let lf = body-bound wf faceCells (faceRecord m) (keyBefore (m .faces)) (m .faces) 16 (unfold total in refl) in
       omega (
         arith,
+        S .sizes .vertex-rows,
+        S .sizes .arc-rows,
+        S .sizes .edge-rows,
+        S .sizes .face-rows,
         length-append (bodyText wv vs) (bodyText wa xs ++ (bodyText we es ++ (bodyText wf fs ++ []))),
         length-append (bodyText wa xs) (bodyText we es ++ (bodyText wf fs ++ [])),
         length-append (bodyText we es) (bodyText wf fs ++ []),

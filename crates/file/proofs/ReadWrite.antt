@@ -140,6 +140,19 @@ in-use rows t make R pos = used-links t 1 (length rows) t (R .few) each
             let q : length rows ≤ i = omega arith in
             ap not (eq-eqb (cell t (i + 1) 0) 0 (R .past i 0 q)) ∙ sym (le-ltb i (length rows) q)
 
+-- the records of such a table in order, as cells, are the records that its rows were made of
+rows-back : {B : Type 0} (cells : B → List ℕ) (of : ℕ → B) (before : ℕ → ℕ → Bool) (t rows : Table) (make : List ℕ → List ℕ) → RowsOf rows make t → FirstCell make
+    → ((i : ℕ) → i + 1 < length rows → before (1 + i) (1 + i + 1) ≡ true)
+    → ((i : ℕ) → i < length rows → cells (of (i + 1)) ≡ getD rows i [])
+    → map cells (map of (inOrder before (usedFrom t 1 t))) ≡ rows
+rows-back cells of before t rows make R pos rise back =
+    ap (λ (l : List ℕ). map cells (map of (inOrder before l))) (in-use rows t make R pos)
+    ∙ ap (λ (l : List ℕ). map cells (map of l)) (already-in-order before 1 (length rows) rise)
+    ∙ map-up cells of rows 1 (λ i l. ap (λ (z : ℕ). cells (of z)) (link i) ∙ back i l)
+  where
+    link : (i : ℕ) → 1 + i ≡ i + 1
+    link i = omega arith
+
 -- a record before another by its first cell, and by its first two
 pub rises-one : (r s : List ℕ) → T (risesBy 1 r s) → ltb (getD r 0 0) (getD s 0 0) ≡ true
 unfolding risesBy
@@ -455,45 +468,38 @@ module _ (c : Contents) (n : Mesh) (R : Rowed c n) (S : SoundFacts n) where
       four : body c 0 ∷ body c 1 ∷ body c 2 ∷ body c 3 ∷ [] ≡ c .bodies
       four = unfold body in spells [] (c .bodies) 0 4 (sym (bodies-count schema (c .bodies) fits))
 
-      row-fit : (ws : List ℕ) (rows : Table) → T (every (rowFits ws) rows) → (i : ℕ) → i < length rows → T (rowFits ws (getD rows i []))
-      row-fit ws rows h i l = every-at (rowFits ws) rows [] h i l
-
       body-fit : (k : ℕ) → k < 4 → T (every (rowFits (getD schema k [])) (body c k))
       body-fit k l = unfold body in body-rows-fit schema (c .bodies) k fits l
 
       body-rise : (k : ℕ) → k < 4 → T (rising (getD keyCells k 0) (body c k))
       body-rise k l = unfold body in bodies-rise keyCells (c .bodies) k rise l
 
-      link : (i : ℕ) → 1 + i ≡ i + 1
-      link i = omega arith
+      each-fit : (k : ℕ) → k < 4 → (i : ℕ) → i < length (body c k) → T (rowFits (getD schema k []) (getD (body c k) i []))
+      each-fit k q i l = every-at (rowFits (getD schema k [])) (body c k) [] (body-fit k q) i l
 
       vertices : map vertexCells (map (vertexRecord n) (inOrder (keyBefore (n .vertices)) (usedFrom (n .vertices) 1 (n .vertices)))) ≡ body c 0
       vertices =
-          ap (λ (l : List ℕ). map vertexCells (map (vertexRecord n) (inOrder (keyBefore (n .vertices)) l))) (in-use (body c 0) (n .vertices) (vertexRow c) (R .vertices) (vertex-pos c))
-          ∙ ap (λ (l : List ℕ). map vertexCells (map (vertexRecord n) l)) (already-in-order (keyBefore (n .vertices)) 1 (length (body c 0)) (key-order (n .vertices) (body c 0) vertex-key (body-rise 0 (omega arith))))
-          ∙ map-up vertexCells (vertexRecord n) (body c 0) 1
-          (λ i l. ap (λ (z : ℕ). vertexCells (vertexRecord n z)) (link i) ∙ vertex-back i l (row-fit (getD schema 0 []) (body c 0) (body-fit 0 (omega arith)) i l))
+          rows-back vertexCells (vertexRecord n) (keyBefore (n .vertices)) (n .vertices) (body c 0) (vertexRow c) (R .vertices) (vertex-pos c)
+          (key-order (n .vertices) (body c 0) vertex-key (body-rise 0 (omega arith)))
+          (λ i l. vertex-back i l (each-fit 0 (omega arith) i l))
 
       arcs : map arcCells (map (arcRecord n) (inOrder (arcBefore n) (usedFrom (n .arcs) 1 (n .arcs)))) ≡ body c 1
       arcs =
-          ap (λ (l : List ℕ). map arcCells (map (arcRecord n) (inOrder (arcBefore n) l))) (in-use (body c 1) (n .arcs) (arcRow c) (R .arcs) (arc-pos c))
-          ∙ ap (λ (l : List ℕ). map arcCells (map (arcRecord n) l)) (already-in-order (arcBefore n) 1 (length (body c 1)) (arc-order (body-rise 1 (omega arith))))
-          ∙ map-up arcCells (arcRecord n) (body c 1) 1
-          (λ i l. ap (λ (z : ℕ). arcCells (arcRecord n z)) (link i) ∙ arc-back i l (row-fit (getD schema 1 []) (body c 1) (body-fit 1 (omega arith)) i l))
+          rows-back arcCells (arcRecord n) (arcBefore n) (n .arcs) (body c 1) (arcRow c) (R .arcs) (arc-pos c)
+          (arc-order (body-rise 1 (omega arith)))
+          (λ i l. arc-back i l (each-fit 1 (omega arith) i l))
 
       edges : map edgeCells (map (edgeRecord n) (inOrder (keyBefore (n .edges)) (usedFrom (n .edges) 1 (n .edges)))) ≡ body c 2
       edges =
-          ap (λ (l : List ℕ). map edgeCells (map (edgeRecord n) (inOrder (keyBefore (n .edges)) l))) (in-use (body c 2) (n .edges) (edgeRow c) (R .edges) (edge-pos c))
-          ∙ ap (λ (l : List ℕ). map edgeCells (map (edgeRecord n) l)) (already-in-order (keyBefore (n .edges)) 1 (length (body c 2)) (key-order (n .edges) (body c 2) edge-key (body-rise 2 (omega arith))))
-          ∙ map-up edgeCells (edgeRecord n) (body c 2) 1
-          (λ i l. ap (λ (z : ℕ). edgeCells (edgeRecord n z)) (link i) ∙ edge-back i l (row-fit (getD schema 2 []) (body c 2) (body-fit 2 (omega arith)) i l))
+          rows-back edgeCells (edgeRecord n) (keyBefore (n .edges)) (n .edges) (body c 2) (edgeRow c) (R .edges) (edge-pos c)
+          (key-order (n .edges) (body c 2) edge-key (body-rise 2 (omega arith)))
+          (λ i l. edge-back i l (each-fit 2 (omega arith) i l))
 
       faces : map faceCells (map (faceRecord n) (inOrder (keyBefore (n .faces)) (usedFrom (n .faces) 1 (n .faces)))) ≡ body c 3
       faces =
-          ap (λ (l : List ℕ). map faceCells (map (faceRecord n) (inOrder (keyBefore (n .faces)) l))) (in-use (body c 3) (n .faces) (faceRow c) (R .faces) (face-pos c))
-          ∙ ap (λ (l : List ℕ). map faceCells (map (faceRecord n) l)) (already-in-order (keyBefore (n .faces)) 1 (length (body c 3)) (key-order (n .faces) (body c 3) face-key (body-rise 3 (omega arith))))
-          ∙ map-up faceCells (faceRecord n) (body c 3) 1
-          (λ i l. ap (λ (z : ℕ). faceCells (faceRecord n z)) (link i) ∙ face-back i l (row-fit (getD schema 3 []) (body c 3) (body-fit 3 (omega arith)) i l))
+          rows-back faceCells (faceRecord n) (keyBefore (n .faces)) (n .faces) (body c 3) (faceRow c) (R .faces) (face-pos c)
+          (key-order (n .faces) (body c 3) face-key (body-rise 3 (omega arith)))
+          (λ i l. face-back i l (each-fit 3 (omega arith) i l))
 
 -- ---- reading
 

@@ -11,7 +11,7 @@ use lib.ListN.{length, getD}
 use lib.Dec.{T}
 use lib.Ieee.{binary64, toBits}
 use Rattle.rules.specs.Table.{Table, there, has, distinct}
-use Rattle.rules.specs.Mesh.{Mesh, ringLimit, source, dest, next, previous, face, edge, leading, edgeArc, edgeOther, faceArc, keyAt}
+use Rattle.rules.specs.Mesh.{Mesh, ringLimit, source, dest, next, previous, face, edge, leading, edgeArc, edgeOther, faceArc, keyAt, nextKey}
 use Rattle.rules.specs.Point.{exponentField}
 use Rattle.rules.specs.Link.{ring}
 use Rattle.rules.proofs.Counts.{bit}
@@ -70,6 +70,10 @@ pub record RestZero (n : Mesh) : Type 0 where
   pub faces-zero : UnusedZero (n .faces)
   pub positions-zero : (v c : ℕ) → 1 ≤ v → v ≤ length (n .positions) → (IsVertex n v → ⊥) → c < 3 → toBits binary64 (coordinate n v c) ≡ 0
 
+-- what holds at each link that is mapped to holds at every used link
+through : {t u : Table} {to : ℕ → ℕ} (P : ℕ → Type 0) → OneToOne t u to → ((x : ℕ) → T (there t x) → P (to x)) → (l : ℕ) → T (there u l) → P l
+through P O h l a = let x = O .from l a in subst P (x .2) (h (x .0) (x .1))
+
 -- ---- keys
 
 keys-still-differ : (t u : Table) (to : ℕ → ℕ) → OneToOne t u to → ((x : ℕ) → T (there t x) → keyAt u (to x) ≡ keyAt t x) → KeysDiffer t → KeysDiffer u
@@ -80,10 +84,10 @@ keys-still-differ t u to O keys differ l k a b e =
     sym (keys (x .0) (x .1)) ∙ ap (keyAt u) (x .2) ∙ e ∙ sym (ap (keyAt u) (y .2)) ∙ keys (y .0) (y .1) in
     sym (x .2) ∙ ap to (differ (x .0) (y .0) (x .1) (y .1) same) ∙ y .2
 
-keys-still-below : (t u : Table) (to : ℕ → ℕ) (k : ℕ) → OneToOne t u to → ((x : ℕ) → T (there t x) → keyAt u (to x) ≡ keyAt t x) → KeysBelow t k → KeysBelow u k
-keys-still-below t u to k O keys below l a =
-    let x = O .from l a in
-    subst (λ (z : ℕ). z < k) (sym (keys (x .0) (x .1)) ∙ ap (keyAt u) (x .2)) (below (x .0) (x .1))
+keys-still-below : (t u : Table) (to : ℕ → ℕ) (k j : ℕ) → OneToOne t u to → ((x : ℕ) → T (there t x) → keyAt u (to x) ≡ keyAt t x) → j ≡ k
+    → KeysBelow t k → KeysBelow u j
+keys-still-below t u to k j O keys e below =
+    through (λ l. keyAt u l < j) O (λ x a. omega (arith, keys x a, below x a))
 
 -- ---- one ring
 
@@ -279,6 +283,9 @@ module _ (m n : Mesh) (S : SoundFacts m) (R : Renamed m n) where
       (R .vertices .once (source m x) (source m y) (S .ends-exist x u .0) (S .ends-exist y w .0) (sym (R .sources x u) ∙ e ∙ R .sources y w))
       (R .vertices .once (dest m x) (dest m y) (S .ends-exist x u .1) (S .ends-exist y w .1) (sym (R .dests x u) ∙ d ∙ R .dests y w))
 
+  edge-renamed : (x : ℕ) → IsArc m x → IsEdge n (edge n (R .arcTo x))
+  edge-renamed x u = subst (λ (z : ℕ). IsEdge n z) (sym (R .arc-edges x u)) (R .edges .kept (edge m x) (S .edge-exists x u))
+
   names-renamed : (x : ℕ) → IsArc m x → (edgeArc n (edge n (R .arcTo x)) ≡ R .arcTo x) ⊎ (edgeOther n (edge n (R .arcTo x)) ≡ R .arcTo x)
   names-renamed x u =
       let w = S .edge-exists x u in
@@ -344,21 +351,24 @@ module _ (m n : Mesh) (S : SoundFacts m) (R : Renamed m n) where
         vertex-keys-differ = keys-still-differ (m .vertices) (n .vertices) (R .vertexTo) (R .vertices) (R .vertex-keys) (S .vertex-keys-differ);
         edge-keys-differ = keys-still-differ (m .edges) (n .edges) (R .edgeTo) (R .edges) (R .edge-keys) (S .edge-keys-differ);
         face-keys-differ = keys-still-differ (m .faces) (n .faces) (R .faceTo) (R .faces) (R .face-keys) (S .face-keys-differ);
-        vertex-keys-below = subst (λ (k : List ℕ). KeysBelow (n .vertices) (getD k 0 0)) (sym (R .counters)) (keys-still-below (m .vertices) (n .vertices) (R .vertexTo) (getD (m .counters) 0 0) (R .vertices) (R .vertex-keys) (S .vertex-keys-below));
-        edge-keys-below = subst (λ (k : List ℕ). KeysBelow (n .edges) (getD k 1 0)) (sym (R .counters)) (keys-still-below (m .edges) (n .edges) (R .edgeTo) (getD (m .counters) 1 0) (R .edges) (R .edge-keys) (S .edge-keys-below));
-        face-keys-below = subst (λ (k : List ℕ). KeysBelow (n .faces) (getD k 2 0)) (sym (R .counters)) (keys-still-below (m .faces) (n .faces) (R .faceTo) (getD (m .counters) 2 0) (R .faces) (R .face-keys) (S .face-keys-below));
-        both-arcs = λ e u. let d = R .edges .from e u in subst (λ (z : ℕ). BothArcs n z) (d .2) (both-renamed (d .0) (d .1));
-        ends-differ = λ l u. let x = R .arcs .from l u in subst (λ (z : ℕ). source n z ≡ dest n z → ⊥) (x .2) (ends-renamed (x .0) (x .1));
-        ends-exist = λ l u. let x = R .arcs .from l u in subst (λ (z : ℕ). IsVertex n (source n z) × IsVertex n (dest n z)) (x .2) (exist-renamed (x .0) (x .1));
-        pairs-differ = λ l k u w e d. let x = R .arcs .from l u in let y = R .arcs .from k w in
-            sym (x .2) ∙ ap (R .arcTo) (pairs-renamed (x .0) (y .0) (x .1) (y .1) (ap (source n) (x .2) ∙ e ∙ sym (ap (source n) (y .2))) (ap (dest n) (x .2) ∙ d ∙ sym (ap (dest n) (y .2)))) ∙ y .2;
-        edge-exists = λ l u. let x = R .arcs .from l u in subst (λ (z : ℕ). IsEdge n z) (sym (R .arc-edges (x .0) (x .1)) ∙ ap (edge n) (x .2)) (R .edges .kept (edge m (x .0)) (S .edge-exists (x .0) (x .1)));
-        edge-names = λ l u. let x = R .arcs .from l u in subst (λ (z : ℕ). (edgeArc n (edge n z) ≡ z) ⊎ (edgeOther n (edge n z) ≡ z)) (x .2) (names-renamed (x .0) (x .1));
-        leads-out = λ l u. let v = R .vertices .from l u in subst (λ (z : ℕ). (leading n z ≡ 0 → ⊥) → IsArc n (leading n z) × (source n (leading n z) ≡ z)) (v .2) (leads-renamed (v .0) (v .1));
-        next-leaves = λ l u. let x = R .arcs .from l u in subst (λ (z : ℕ). (next n z ≡ 0 → ⊥) → IsArc n (next n z) × (source n (next n z) ≡ dest n z)) (x .2) (next-renamed (x .0) (x .1));
-        previous-arrives = λ l u. let x = R .arcs .from l u in subst (λ (z : ℕ). (previous n z ≡ 0 → ⊥) → IsArc n (previous n z) × (dest n (previous n z) ≡ source n z)) (x .2) (previous-renamed (x .0) (x .1));
-        face-exists = λ l u. let x = R .arcs .from l u in subst (λ (z : ℕ). (face n z ≡ 0 → ⊥) → IsFace n (face n z)) (x .2) (face-renamed (x .0) (x .1));
-        rings = λ l u. let f = R .faces .from l u in subst (λ (z : ℕ). RingFacts n z) (f .2) (ring-renamed (f .0) (f .1));
+        vertex-keys-below =
+            keys-still-below (m .vertices) (n .vertices) (R .vertexTo) (nextKey m 0) (nextKey n 0) (R .vertices) (R .vertex-keys) (counter 0) (S .vertex-keys-below);
+        edge-keys-below =
+            keys-still-below (m .edges) (n .edges) (R .edgeTo) (nextKey m 1) (nextKey n 1) (R .edges) (R .edge-keys) (counter 1) (S .edge-keys-below);
+        face-keys-below =
+            keys-still-below (m .faces) (n .faces) (R .faceTo) (nextKey m 2) (nextKey n 2) (R .faces) (R .face-keys) (counter 2) (S .face-keys-below);
+        both-arcs = through (BothArcs n) (R .edges) both-renamed;
+        ends-differ = through (λ x. source n x ≡ dest n x → ⊥) (R .arcs) ends-renamed;
+        ends-exist = through (λ x. IsVertex n (source n x) × IsVertex n (dest n x)) (R .arcs) exist-renamed;
+        pairs-differ = pairs;
+        edge-exists = through (λ x. IsEdge n (edge n x)) (R .arcs) edge-renamed;
+        edge-names = through (λ x. (edgeArc n (edge n x) ≡ x) ⊎ (edgeOther n (edge n x) ≡ x)) (R .arcs) names-renamed;
+        leads-out = through (λ v. (leading n v ≡ 0 → ⊥) → IsArc n (leading n v) × (source n (leading n v) ≡ v)) (R .vertices) leads-renamed;
+        next-leaves = through (λ x. (next n x ≡ 0 → ⊥) → IsArc n (next n x) × (source n (next n x) ≡ dest n x)) (R .arcs) next-renamed;
+        previous-arrives =
+            through (λ x. (previous n x ≡ 0 → ⊥) → IsArc n (previous n x) × (dest n (previous n x) ≡ source n x)) (R .arcs) previous-renamed;
+        face-exists = through (λ x. (face n x ≡ 0 → ⊥) → IsFace n (face n x)) (R .arcs) face-renamed;
+        rings = through (RingFacts n) (R .faces) ring-renamed;
         vertices-zero = Z .vertices-zero;
         arcs-zero = Z .arcs-zero;
         edges-zero = Z .edges-zero;
@@ -366,3 +376,14 @@ module _ (m n : Mesh) (S : SoundFacts m) (R : Renamed m n) where
         positions-zero = Z .positions-zero;
         all-finite = finite-renamed Z;
       }
+    where
+      counter : (kind : ℕ) → nextKey n kind ≡ nextKey m kind
+      counter kind = ap (λ (k : List ℕ). getD k kind 0) (R .counters)
+
+      pairs : (l k : ℕ) → IsArc n l → IsArc n k → source n l ≡ source n k → dest n l ≡ dest n k → l ≡ k
+      pairs l k u w e d =
+          let x = R .arcs .from l u in
+          let y = R .arcs .from k w in
+          let es = ap (source n) (x .2) ∙ e ∙ sym (ap (source n) (y .2)) in
+          let ed = ap (dest n) (x .2) ∙ d ∙ sym (ap (dest n) (y .2)) in
+          sym (x .2) ∙ ap (R .arcTo) (pairs-renamed (x .0) (y .0) (x .1) (y .1) es ed) ∙ y .2

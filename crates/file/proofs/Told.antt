@@ -136,6 +136,10 @@ told-each p tell cells of [] h e = refl
 told-each p tell cells of (x ∷ xs) h e =
     rw (e x (and-l (p x) (every p xs) h), told-each p tell cells of xs (and-r (p x) (every p xs) h) e)
 
+pub told-links {ℓ} : {B : Type ℓ} (tell : List ℕ → B) (cells : B → List ℕ) (of : ℕ → B) (before : ℕ → ℕ → Bool) (t : Table)
+    → ((x : ℕ) → T (there t x) → tell (cells (of x)) ≡ of x) → map tell (map cells (map of (linksIn before t))) ≡ map of (linksIn before t)
+told-links tell cells of before t e = told-each (there t) tell cells of (linksIn before t) (links-used before t) e
+
 pub fits-each {ℓ} : {B : Type ℓ} (p : ℕ → Bool) (q : List ℕ → Bool) (cells : B → List ℕ) (of : ℕ → B) (l : List ℕ) → T (every p l)
     → ((x : ℕ) → T (p x) → T (q (cells (of x)))) → T (every q (map cells (map of l)))
 unfolding every
@@ -333,10 +337,10 @@ module _ (m : Mesh) (S : SoundFacts m) (H : Stored m) where
   unfolding recordsTold contentsOf records body
   records-told =
       rw (
-        told-each (there (m .vertices)) vertexTold vertexCells (vertexRecord m) (linksIn (keyBefore (m .vertices)) (m .vertices)) (links-used (keyBefore (m .vertices)) (m .vertices)) vertex-told,
-        told-each (there (m .arcs)) arcTold arcCells (arcRecord m) (linksIn (arcBefore m) (m .arcs)) (links-used (arcBefore m) (m .arcs)) arc-record-told,
-        told-each (there (m .edges)) edgeTold edgeCells (edgeRecord m) (linksIn (keyBefore (m .edges)) (m .edges)) (links-used (keyBefore (m .edges)) (m .edges)) edge-told,
-        told-each (there (m .faces)) faceTold faceCells (faceRecord m) (linksIn (keyBefore (m .faces)) (m .faces)) (links-used (keyBefore (m .faces)) (m .faces)) face-told,
+        told-links vertexTold vertexCells (vertexRecord m) (keyBefore (m .vertices)) (m .vertices) vertex-told,
+        told-links arcTold arcCells (arcRecord m) (arcBefore m) (m .arcs) arc-record-told,
+        told-links edgeTold edgeCells (edgeRecord m) (keyBefore (m .edges)) (m .edges) edge-told,
+        told-links faceTold faceCells (faceRecord m) (keyBefore (m .faces)) (m .faces) face-told,
       )
 
   -- ---- fitting
@@ -422,6 +426,6 @@ files-tell m n sm hm sn hn = (same, λ e. ap (λ (r : Records). fileText (conten
   where
     same : fileText (contentsOf (records m)) ≡ fileText (contentsOf (records n)) → records m ≡ records n
     same e =
-        sym (records-told m (facts m sm) hm)
-        ∙ ap recordsTold (sym (contents-back (contentsOf (records m)) (contents-of-fit m (facts m sm) hm)) ∙ ap contentsIn e ∙ contents-back (contentsOf (records n)) (contents-of-fit n (facts n sn) hn))
-        ∙ records-told n (facts n sn) hn
+        let reads-m = contents-back (contentsOf (records m)) (contents-of-fit m (facts m sm) hm) in
+        let reads-n = contents-back (contentsOf (records n)) (contents-of-fit n (facts n sn) hn) in
+        sym (records-told m (facts m sm) hm) ∙ ap recordsTold (sym reads-m ∙ ap contentsIn e ∙ reads-n) ∙ records-told n (facts n sn) hn

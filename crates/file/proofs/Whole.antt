@@ -134,7 +134,8 @@ places-back at (ws ∷ wss) toc t h l p =
     let offset : cellText 4 at ≡ take 4 (drop 4 toc) =
     ap (λ (k : ℕ). cellText 4 k) (sym (eqb→eq (offsetIn toc) at (and-l (eqb (offsetIn toc) at) _ p)))
     ∙ offset-written toc h (omega arith) in
-    let rest = places-back (at + bodyLength ws n) wss (drop 8 toc) (drop (bodyLength ws n) t) (bytes-drop 8 toc h) (omega (arith, length-drop 8 toc)) (and-r (eqb (offsetIn toc) at) _ p) in
+    let rest =
+    places-back (at + bodyLength ws n) wss (drop 8 toc) (drop (bodyLength ws n) t) (bytes-drop 8 toc h) (omega (arith, length-drop 8 toc)) (and-r (eqb (offsetIn toc) at) _ p) in
     rw (many, count, offset, rest) (sym joined)
   where
     joined : take (4 + (4 + tocLength wss)) toc ≡ take 4 toc ++ (take 4 (drop 4 toc) ++ take (tocLength wss) (drop 8 toc))
@@ -203,7 +204,8 @@ bodies-fit (ws ∷ wss) toc t h k =
     let n : ℕ = countIn toc in
     let few : length (bodyIn ws n t) < 256 ^ 4 = subst (λ (z : ℕ). z < 256 ^ 4) (sym (body-count ws n t)) (count-fits toc h) in
     and-i (ltb (length (bodyIn ws n t)) (256 ^ 4)) _ (below-T (length (bodyIn ws n t)) (256 ^ 4) few)
-    (and-i (every (rowFits ws) (bodyIn ws n t)) _ (body-fits ws n t k) (bodies-fit wss (drop 8 toc) (drop (bodyLength ws n) t) (bytes-drop 8 toc h) (bytes-drop (bodyLength ws n) t k)))
+    (and-i (every (rowFits ws) (bodyIn ws n t)) _ (body-fits ws n t k)
+    (bodies-fit wss (drop 8 toc) (drop (bodyLength ws n) t) (bytes-drop 8 toc h) (bytes-drop (bodyLength ws n) t k)))
 
 pub contents-fit : (t : Text) → T (bytesOnly t) → T (contentsFit (contentsIn t))
 unfolding contentsFit contentsIn

@@ -149,7 +149,8 @@ used-count t l (r ∷ rs) h =
     let here : there t l ≡ used r = ap (there t) (sym (omega arith)) ∙ h 0 (omega arith) in
     rw here (go (used r) (used-count t (l + 1) rs (λ i q. ap (there t) (omega arith) ∙ h (suc i) (suc-le-suc q))))
   where
-    go : (b : Bool) → length (usedFrom t (l + 1) rs) ≡ count used rs → length (cond b (l ∷ usedFrom t (l + 1) rs) (usedFrom t (l + 1) rs)) ≡ cond b (suc (count used rs)) (count used rs)
+    go : (b : Bool) → length (usedFrom t (l + 1) rs) ≡ count used rs
+        → length (cond b (l ∷ usedFrom t (l + 1) rs) (usedFrom t (l + 1) rs)) ≡ cond b (suc (count used rs)) (count used rs)
     go true e = ap suc e
     go false e = e
 

@@ -94,9 +94,30 @@ pub record Layout : Type 0 where
   pub triangle-fits : lengthFits triangleFile ≡ true
   pub triangle-in-place : inPlace triangleFile ≡ true
   pub rows-not-written : fileOf scattered ≡ triangleFile
-  pub contents-table : take 32 triangleFile ≡ 3 ∷ 0 ∷ 0 ∷ 0 ∷ 44 ∷ 0 ∷ 0 ∷ 0 ∷ 6 ∷ 0 ∷ 0 ∷ 0 ∷ 140 ∷ 0 ∷ 0 ∷ 0 ∷ 3 ∷ 0 ∷ 0 ∷ 0 ∷ 28 ∷ 1 ∷ 0 ∷ 0 ∷ 1 ∷ 0 ∷ 0 ∷ 0 ∷ 64 ∷ 1 ∷ 0 ∷ 0 ∷ []
-  pub none-is-written : take 4 (drop 104 triangleFile) ≡ 255 ∷ 255 ∷ 255 ∷ 255 ∷ []
-  pub empty-file : emptyFile ≡ 0 ∷ 0 ∷ 0 ∷ 0 ∷ 44 ∷ 0 ∷ 0 ∷ 0 ∷ 0 ∷ 0 ∷ 0 ∷ 0 ∷ 44 ∷ 0 ∷ 0 ∷ 0 ∷ 0 ∷ 0 ∷ 0 ∷ 0 ∷ 44 ∷ 0 ∷ 0 ∷ 0 ∷ 0 ∷ 0 ∷ 0 ∷ 0 ∷ 44 ∷ 0 ∷ 0 ∷ 0 ∷ 0 ∷ 0 ∷ 0 ∷ 0 ∷ 0 ∷ 0 ∷ 0 ∷ 0 ∷ 0 ∷ 0 ∷ 0 ∷ 0 ∷ []
+  pub contents-table :
+      take 32 triangleFile
+      ≡ (3 ∷ 0 ∷ 0 ∷ 0 ∷ 44 ∷ 0 ∷ 0 ∷ 0 ∷ [])
+      ++ ((6 ∷ 0 ∷ 0 ∷ 0 ∷ 140 ∷ 0 ∷ 0 ∷ 0 ∷ [])
+      ++ ((3 ∷ 0 ∷ 0 ∷ 0 ∷ 28 ∷ 1 ∷ 0 ∷ 0 ∷ []) ++ (1 ∷ 0 ∷ 0 ∷ 0 ∷ 64 ∷ 1 ∷ 0 ∷ 0 ∷ [])))
+  -- vertex 1 at (1, 0, -0), without a leading arc
+  pub vertex-bytes :
+      take 32 (drop 76 triangleFile)
+      ≡ (1 ∷ 0 ∷ 0 ∷ 0 ∷ [])
+      ++ ((0 ∷ 0 ∷ 0 ∷ 0 ∷ 0 ∷ 0 ∷ 240 ∷ 63 ∷ [])
+      ++ (replicate 8 0 ++ ((0 ∷ 0 ∷ 0 ∷ 0 ∷ 0 ∷ 0 ∷ 0 ∷ 128 ∷ []) ++ (255 ∷ 255 ∷ 255 ∷ 255 ∷ []))))
+  -- the arc (1,0): no next, previous (2,1), no face, edge 0
+  pub arc-bytes :
+      take 24 (drop 188 triangleFile)
+      ≡ (1 ∷ 0 ∷ 0 ∷ 0 ∷ 0 ∷ 0 ∷ 0 ∷ 0 ∷ [])
+      ++ ((255 ∷ 255 ∷ 255 ∷ 255 ∷ 2 ∷ 0 ∷ 0 ∷ 0 ∷ []) ++ (255 ∷ 255 ∷ 255 ∷ 255 ∷ 0 ∷ 0 ∷ 0 ∷ 0 ∷ []))
+  -- edge 1, by its arc (1,2); face 0, by its arc (0,1), with the mark 7
+  pub edge-bytes : take 12 (drop 296 triangleFile) ≡ 1 ∷ 0 ∷ 0 ∷ 0 ∷ 1 ∷ 0 ∷ 0 ∷ 0 ∷ 2 ∷ 0 ∷ 0 ∷ 0 ∷ []
+  pub face-bytes : drop 320 triangleFile ≡ 0 ∷ 0 ∷ 0 ∷ 0 ∷ 0 ∷ 0 ∷ 0 ∷ 0 ∷ 1 ∷ 0 ∷ 0 ∷ 0 ∷ 7 ∷ 0 ∷ 0 ∷ 0 ∷ []
+  pub empty-file :
+      emptyFile
+      ≡ (0 ∷ 0 ∷ 0 ∷ 0 ∷ 44 ∷ 0 ∷ 0 ∷ 0 ∷ [])
+      ++ ((0 ∷ 0 ∷ 0 ∷ 0 ∷ 44 ∷ 0 ∷ 0 ∷ 0 ∷ [])
+      ++ ((0 ∷ 0 ∷ 0 ∷ 0 ∷ 44 ∷ 0 ∷ 0 ∷ 0 ∷ []) ++ ((0 ∷ 0 ∷ 0 ∷ 0 ∷ 44 ∷ 0 ∷ 0 ∷ 0 ∷ []) ++ replicate 12 0)))
 
 -- in reading: 0 where it is accepted, into tables that are larger than it asks too, -0 among its coordinates
 pub record Accepted : Type 0 where
@@ -143,3 +164,12 @@ pub record Writing : Type 0 where
   pub refused-1 : writeFile unsound [] .number ≡ 1
   pub refused-7 : writeFile lone (replicate 75 9) .number ≡ 7
   pub none-touched : writeFile lone (9 ∷ 8 ∷ []) .bytes ≡ 9 ∷ 8 ∷ []
+
+-- all of them
+pub record Computed : Type 0 where
+  pub layout : Layout
+  pub accepted : Accepted
+  pub one-and-ten : Lengths
+  pub eleven : Places
+  pub seven-and-twelve : Unsound
+  pub writing : Writing
