@@ -15,6 +15,7 @@ use Rattle.rules.specs.Script.{Text}
 use Rattle.proved.specs.Facts.{coordinate}
 use Rattle.file.specs.File.{rowFits, counterWidths, fileOf, lengthFits, inPlace, contentsIn, meshOf, sizesServe, tablesHold, readFile, writeFile}
 
+-- what tables of u32 and of 64-bit coordinates hold
 pub record Stored (m : Mesh) : Type 0 where
   -- three counters, each a u32
   pub counters : T (rowFits counterWidths (m .counters))
