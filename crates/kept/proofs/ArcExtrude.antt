@@ -36,7 +36,8 @@ use Rattle.kept.proofs.Free.{old-differs}
 use Rattle.kept.proofs.Vertex.{vertex-took, moved-from, vertex-ends, vertex-new, vertex-kept}
 use Rattle.kept.proofs.Edge.{made-edge, edge-kept}
 use Rattle.kept.proofs.Keeps.{keeps-none, keeps-onto, keeps-edge}
-use Rattle.kept.proofs.Makers.{ruled-like, vertex-by, edge-by}
+use Rattle.kept.proofs.Makers.{vertex-by, edge-by}
+use Rattle.makers.proofs.Ruled.{ruled-like}
 use Rattle.kept.proofs.Tallies.{tally-none, tally-onto, left-met, tally-vertex, tally-edge}
 use Rattle.kept.proofs.Along.{Along, along-same, along-so, along-checked, along-answering}
 use Rattle.kept.proofs.Put.{Put, along-insert}

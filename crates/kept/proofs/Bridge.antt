@@ -35,7 +35,7 @@ use Rattle.kept.proofs.Remove.{ring-place-holds, remove-kept, remove-sp
 use Rattle.kept.proofs.Passed.{Passed}
 use Rattle.kept.proofs.Halves.{ring-follows}
 use Rattle.kept.proofs.Keeps.{keeps-onto, keeps-between}
-use Rattle.kept.proofs.Makers.{ruled-like}
+use Rattle.makers.proofs.Ruled.{ruled-like}
 use Rattle.kept.proofs.Tallies.{tally-onto, left-met, tally-remove}
 use Rattle.kept.proofs.Along.{Along, along-same, along-start, along-so, along-answering, along-loop}
 use Rattle.kept.proofs.Local.{has-first, has-second, local-onto, ends-on-ring, remove-local, since-onto, remove-since, Reaching}

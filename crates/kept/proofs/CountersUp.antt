@@ -24,7 +24,7 @@ use Rattle.kept.specs.Frame.{ThreeCounters}
 use Rattle.makers.specs.Makers.{ruled}
 use Rattle.kept.specs.Exactly.{answer}
 use Rattle.kept.specs.Counters.{CountersRise}
-use Rattle.kept.proofs.Makers.{ruled-work}
+use Rattle.makers.proofs.Ruled.{ruled-work}
 use Rattle.kept.proofs.Eight.{Accepted, answer-zero}
 use Rattle.kept.proofs.Steps.{KeptBySteps, work-keeps}
 

@@ -41,7 +41,8 @@ use Rattle.kept.proofs.Remove.{removed, remove-kept, remove-ends}
 use Rattle.kept.proofs.Passed.{Passed, passed, places-apart}
 use Rattle.kept.proofs.Halves.{vertices-length, ring-vertex, ring-pair}
 use Rattle.kept.proofs.Keeps.{keeps-onto, keeps-between}
-use Rattle.kept.proofs.Makers.{ruled-like, vertex-by}
+use Rattle.kept.proofs.Makers.{vertex-by}
+use Rattle.makers.proofs.Ruled.{ruled-like}
 use Rattle.kept.proofs.Tallies.{tally-onto, left-met, tally-vertex, tally-remove}
 use Rattle.kept.proofs.Along.{Along, along-same, along-so, along-checked, along-answering, along-loop}
 use Rattle.kept.proofs.Put.{Put, along-insert}

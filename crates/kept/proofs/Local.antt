@@ -36,7 +36,7 @@ use Rattle.kept.proofs.Edge.{made-old-cell, made-ring}
 use Rattle.kept.proofs.Vertex.{vertex-rest, vertex-ring, vertex-ends}
 use Rattle.kept.proofs.Remove.{Cleared, removed, holder-place, remove-spares, remove-ends, remove-was}
 use Rattle.kept.proofs.Reaches.{not-on}
-use Rattle.kept.proofs.Makers.{ruled-like}
+use Rattle.makers.proofs.Ruled.{ruled-like}
 use Rattle.kept.proofs.Along.{Along, along-so}
 use Rattle.kept.proofs.Put.{Put, along-insert}
 

@@ -1,5 +1,5 @@
--- The edits by any makers: with the rules' own they are the edits. And where there is room for one record, makers that are like the rules make
--- the same; so an insert whose need is met is the same by them, for any perimeter, in mid-edit too.
+-- The edits by any makers: where there is room for one record, makers that are like the rules make the same; so an insert whose need is met is the
+-- same by them, for any perimeter, in mid-edit too.
 use Prim.Native.Nat.{ℕ, zero, suc, _≤_}
 use native.Mathlib.Omega.{arith}
 use native.Mathlib.Decide.{ℕ-discrete}
@@ -33,22 +33,6 @@ use Rattle.kept.proofs.EdgesIn.{edges-said, each-edge-finds-room, edges
 use Rattle.kept.proofs.Face.{edges-room}
 use Rattle.kept.proofs.Insert.{withEdges, edges-up, room-up}
 use Rattle.kept.proofs.Tells.{SearchedIn, searched-here, still-tells}
-
--- by the rules' makers an edit is the edit
-pub ruled-work : (m : Mesh) (e : Edit) (keys : List ℕ) → workBy ruled m e keys ≡ work m e keys
-unfolding workBy work getOrInsertEdgeBy getOrInsertEdge edgesUpToBy edgesIn putFaceBy putFace insertWorkBy insertWork insertFaceBy insertFace splitWorkBy splitWork pokeWorkBy pokeWork arcBridgeWorkBy arcBridgeWork arcBridgeBy arcBridge bridgeWorkBy bridgeWork copyOneBy copyOne copiesBy copies extrudeWorkBy extrudeWork arcExtrudeWorkBy arcExtrudeWork
-ruled-work m (VertexInsert p) keys = refl
-ruled-work m (FaceInsert mark) keys = refl
-ruled-work m (FaceRemove f) keys = refl
-ruled-work m (FaceSplit f s d) keys = refl
-ruled-work m (FacePoke f p) keys = refl
-ruled-work m (FaceBridge f g) keys = refl
-ruled-work m (FaceExtrude f move) keys = refl
-ruled-work m (ArcBridge a b c d) keys = refl
-ruled-work m (ArcExtrude s d move) keys = refl
-
-pub ruled-like : LikeRules ruled
-ruled-like = record { vertex-same = λ m p r. refl; edge-same = λ m a b r. refl; face-same = λ m x mark r. refl; outside-same = λ old soon per m t. refl }
 
 module _ (by : Makers) (like : LikeRules by) where
   pub vertex-by : (m : Mesh) → SoundFacts m → (p : Position) → RoomForVertex m → by .vertex m p ≡ newVertex m p

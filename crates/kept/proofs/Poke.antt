@@ -40,7 +40,8 @@ use Rattle.kept.proofs.Passed.{passed}
 use Rattle.kept.proofs.Halves.{vertices-length, ring-vertex, ring-pair}
 use Rattle.kept.proofs.Keeps.{keeps-onto, keeps-between}
 use Rattle.kept.proofs.Eight.{answer-zero}
-use Rattle.kept.proofs.Makers.{ruled-like, vertex-by}
+use Rattle.kept.proofs.Makers.{vertex-by}
+use Rattle.makers.proofs.Ruled.{ruled-like}
 use Rattle.kept.proofs.Tallies.{tally-onto, left-met, tally-vertex, tally-remove}
 use Rattle.kept.proofs.Along.{Along, along-start, along-so, along-answering, along-loop}
 use Rattle.kept.proofs.Local.{local-onto, vertex-local, removed-local, since-onto, remove-since, vertex-since, Reaching}

@@ -33,7 +33,7 @@ use Rattle.kept.proofs.Free.{free-differs}
 use Rattle.kept.proofs.Rings.{first-holds, ring-same}
 use Rattle.kept.proofs.Remove.{ring-place-holds}
 use Rattle.kept.proofs.Eight.{Accepted}
-use Rattle.kept.proofs.Makers.{ruled-work}
+use Rattle.makers.proofs.Ruled.{ruled-work}
 use Rattle.kept.proofs.Steps.{KeptBySteps, work-keeps}
 use Rattle.kept.proofs.EditReach.{edit-reach}
 

@@ -13,7 +13,7 @@ use Rattle.kept.specs.Frame.{AllButRings, ThreeCounters, Met}
 use Rattle.kept.specs.Perimeter.{Perimeter}
 use Rattle.makers.specs.Makers.{Makers, ruled, LikeRules, insertWorkBy, workBy}
 use Rattle.kept.specs.Suffices.{Tally, Within, removedBy, Suffices}
-use Rattle.kept.proofs.Makers.{ruled-like}
+use Rattle.makers.proofs.Ruled.{ruled-like}
 use Rattle.kept.proofs.Tallies.{tally-onto}
 use Rattle.kept.proofs.Along.{Along, along-start, along-so}
 use Rattle.kept.proofs.Put.{Put, along-insert}
