@@ -15,11 +15,12 @@ use tables::rows;
 ghost use mathlib.Core.Path.{_≡_};
 ghost use mathlib.Core.Bool.{not, _&&_, cond};
 ghost use mathlib.Core.List.{List};
-ghost use Prim.Native.Nat.{ℕ, _<_};
-ghost use lib.ListN.{length, take};
+ghost use Prim.Native.Nat.{ℕ, _<_, _≤_};
+ghost use lib.ListN.{getD, take};
 ghost use lib.Dec.{eqb};
 ghost use lib.Ieee.{Float};
-ghost use Rattle.rules.specs.Table.{Table, cell, has};
+ghost use Rattle.rules.specs.Table.{Table, cell, has, after};
+ghost use Rattle.rules.specs.Point.{positionAt, samePlace};
 ghost use Rattle.rules.specs.Mesh.{mesh, listOf};
 ghost use Rattle.rules.specs.Insert as Insert;
 ghost use Rattle.rules.specs.Call.{pairsWithout};
@@ -94,16 +95,16 @@ pub fn conflict_by(arcs: &[ArcRow], xs: Links, per: Links) -> bool
     false
 }
 
-// Whether pair i of the perimeter is in one spot.
-fn in_one_spot(positions: &[PositionRow], per: Links, i: usize) -> bool
-    requires { ⌜ i < length (listOf per) ⌝ }
+// Whether pair i of a perimeter is in one spot: its vertices are the first n of these.
+fn in_one_spot(positions: &[PositionRow], at: &[u32; RING], n: usize, i: usize) -> bool
+    requires { ⌜ (i < n) × (n ≤ 64) ⌝ }
     ensures { λ r. ⌜
-        ((vs ar es fs : Table) (ks : List ℕ) → r ≡ Insert.inOneSpot (mesh vs (now (positions .entry)) ar es fs ks) (listOf per) i)
+        r ≡ samePlace (positionAt (now (positions .entry)) (getD (now (at .entry)) i 0))
+        (positionAt (now (positions .entry)) (getD (now (at .entry)) (after n i) 0))
         ⌝ }
 {
-    let n = lists::size(per);
-    let here = points::position_at(positions, lists::item(per, i));
-    let next = points::position_at(positions, lists::item(per, lists::place_after(n, i)));
+    let here = points::position_at(positions, at[i]);
+    let next = points::position_at(positions, at[lists::place_after(n, i)]);
     points::same_place(here, next)
 }
 
@@ -114,9 +115,11 @@ fn has_hair(positions: &[PositionRow], per: Links) -> bool
         ⌝ }
 {
     let n = lists::size(per);
+    lists::known_few(per);
+    let at = per.at;
     let mut i: usize = 0;
     while i < n {
-        if in_one_spot(positions, per, i) {
+        if in_one_spot(positions, &at, n, i) {
             return true;
         }
         i += 1;

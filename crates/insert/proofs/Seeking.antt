@@ -8,7 +8,7 @@ use native.Mathlib.Decide.{decLt, ℕ-discrete}
 use mathlib.Core.Path.{_≡_, refl, ap, sym, _∙_}
 use mathlib.Core.Bool.{Bool, true, false, not, cond, _||_}
 use mathlib.Core.List.{List, [], _∷_, _++_, map}
-use mathlib.Core.Logic.{_⊎_, ⊎-elim}
+use mathlib.Core.Logic.{_⊎_, ⊎-elim, inl, inr}
 use lib.ListN.{length, length-map}
 use lib.Dec.{eqb}
 use borrow.Author.Tests.{eq-eqb, ne-eqb, not-true, not-false}
@@ -20,7 +20,7 @@ use Rattle.rules.proofs.Places.{list-back}
 use Rattle.walks.proofs.Listing.{Made}
 use Rattle.lists.proofs.Laws.{made-list}
 use Rattle.makers.specs.Search.{heldIn, firstFree, listFrom, outFrom, backFrom, soughtFor}
-use Rattle.insert.specs.Sought.{soughtOf}
+use Rattle.insert.specs.Sought.{soughtOf, Tries}
 
 -- ---- whether an arc is held
 
@@ -95,13 +95,13 @@ seeking-start held g step first bound all e = record {
 }
 
 module _ {held : ℕ → Bool} {g step : ℕ → ℕ} {first bound all n x saved : ℕ} (s : Seeking held g step first bound all n x saved) where
-  pub seeking-end : bound ≤ n → 0 ≡ all
+  seeking-end : bound ≤ n → 0 ≡ all
   unfolding firstFree
   seeking-end l =
       let z : bound - n ≡ 0 = omega arith in
       sym (s .left ∙ rw (z, walk-zero step first x))
 
-  pub seeking-none : x ≡ 0 → 0 ≡ all
+  seeking-none : x ≡ 0 → 0 ≡ all
   unfolding firstFree
   seeking-none e = sym (s .left ∙ rw (e, walk-none step first (bound - n)))
 
@@ -110,7 +110,7 @@ module _ {held : ℕ → Bool} {g step : ℕ → ℕ} {first bound all n x saved
     there : 1 ≤ x
     there = omega arith
 
-    pub seeking-found : not r ≡ true → z ≡ all
+    seeking-found : not r ≡ true → z ≡ all
     unfolding firstFree
     seeking-found e =
         let free : held (g x) ≡ false = ap held (sym ez) ∙ sym er ∙ not-true r e in
@@ -120,7 +120,7 @@ module _ {held : ℕ → Bool} {g step : ℕ → ℕ} {first bound all n x saved
       is-held : held (g x) ≡ true
       is-held = ap held (sym ez) ∙ sym er ∙ not-false r e
 
-      pub seeking-closed : y ≡ first → 0 ≡ all
+      seeking-closed : y ≡ first → 0 ≡ all
       unfolding firstFree
       seeking-closed c = sym (s .left ∙ rw (walk-stop step first bound n x l there (sym ey ∙ c), is-held))
 
@@ -140,20 +140,71 @@ module _ {held : ℕ → Bool} {g step : ℕ → ℕ} {first bound all n x saved
         unfolding firstFree
         left-on = s .left ∙ rw (walk-on step first bound n x l there (λ q. onward (ey ∙ q)), is-held, ey)
 
-        pub seeking-circle : y ≡ saved → 0 ≡ all
+        seeking-circle : y ≡ saved → 0 ≡ all
         seeking-circle c =
             let j = s .kept .0 in
             let before : j < n + 1 = omega (arith, s .kept .1) in
             let again : y ≡ times step j first = c ∙ s .kept .2 in
             sym (left-on ∙ ap (found held g step first (bound - (n + 1))) again ∙ none-later held g step first (n + 1) j before (sym next-is ∙ again) passed-on (bound - (n + 1)) j before)
 
-        pub seeking-on : (saved′ : ℕ) → (saved′ ≡ saved) ⊎ (saved′ ≡ y) → Seeking held g step first bound all (n + 1) y saved′
+        seeking-on : (saved′ : ℕ) → (saved′ ≡ saved) ⊎ (saved′ ≡ y) → Seeking held g step first bound all (n + 1) y saved′
         seeking-on saved′ es = record {
           next = next-is;
           kept = ⊎-elim (λ q. (s .kept .0, omega (arith, s .kept .1), q ∙ s .kept .2)) (λ q. (n + 1, omega arith, q ∙ next-is)) es;
           passed = passed-on;
           left = left-on;
         }
+
+-- ---- a search that may be done while the other of its walk goes on
+
+pub clash : {A : Type 0} (b : Bool) → b ≡ true → b ≡ false → A
+clash b t f = let z : _≡_ {A = ℕ} 0 1 = ap (λ (c : Bool). cond c 0 1) (sym t ∙ f) in absurd (omega arith)
+
+-- it has found what the whole search finds, or it has come so far
+abbrev pub Comes : (ℕ → Bool) → (ℕ → ℕ) → (ℕ → ℕ) → ℕ → ℕ → ℕ → ℕ → ℕ → ℕ → Bool → ℕ → Type 0
+Comes held g step first bound all n x saved done arc =
+    ((done ≡ true) × (arc ≡ all)) ⊎ ((done ≡ false) × (arc ≡ 0) × Seeking held g step first bound all n x saved)
+
+-- and so once it has tried the arc x: done, or x is held
+abbrev pub Tested : (ℕ → Bool) → (ℕ → ℕ) → (ℕ → ℕ) → ℕ → ℕ → ℕ → ℕ → ℕ → ℕ → Bool → Bool → ℕ → Type 0
+Tested held g step first bound all n x saved r done arc =
+    ((done ≡ true) × (arc ≡ all)) ⊎ ((done ≡ false) × (arc ≡ 0) × (not r ≡ false) × Seeking held g step first bound all n x saved)
+
+module _ (held : ℕ → Bool) (g step : ℕ → ℕ) (first bound all n x saved : ℕ) (done : Bool) (arc : ℕ) (w : Comes held g step first bound all n x saved done arc) where
+  pub comes-end : bound ≤ n → arc ≡ all
+  comes-end l = ⊎-elim (λ p. p .1) (λ p. p .1 ∙ seeking-end (p .2) l) w
+
+  pub comes-none : x ≡ 0 → arc ≡ all
+  comes-none e = ⊎-elim (λ p. p .1) (λ p. p .1 ∙ seeking-none (p .2) e) w
+
+  -- it tries x, which z stands for
+  module _ (l : n < bound) (h : x ≡ 0 → ⊥) (z : ℕ) (ez : z ≡ g x) (r : Bool) (er : r ≡ held z) (done′ : Bool) (arc′ : ℕ) (t : Tries done arc r z done′ arc′) where
+    pub tested : Tested held g step first bound all n x saved r done′ arc′
+    tested = ⊎-elim was-done (λ q. ⊎-elim is-held is-free q) t
+      where
+        was-done : (done ≡ true) × (done′ ≡ true) × (arc′ ≡ arc) → Tested held g step first bound all n x saved r done′ arc′
+        was-done q = ⊎-elim (λ p. inl (q .1, q .2 ∙ p .1)) (λ p. clash done (q .0) (p .0)) w
+
+        is-held : (done ≡ false) × (r ≡ true) × (done′ ≡ false) × (arc′ ≡ arc) → Tested held g step first bound all n x saved r done′ arc′
+        is-held q = ⊎-elim (λ p. clash done (p .0) (q .0)) (λ p. inr (q .2, q .3 ∙ p .1, ap not (q .1), p .2)) w
+
+        is-free : (done ≡ false) × (r ≡ false) × (done′ ≡ true) × (arc′ ≡ z) → Tested held g step first bound all n x saved r done′ arc′
+        is-free q = ⊎-elim (λ p. clash done (p .0) (q .0)) (λ p. inl (q .2, q .3 ∙ seeking-found (p .2) l h z ez r er (ap not (q .1)))) w
+
+module _ (held : ℕ → Bool) (g step : ℕ → ℕ) (first bound all n x saved : ℕ) (r done : Bool) (arc : ℕ) (w : Tested held g step first bound all n x saved r done arc) where
+  pub tested-done : done ≡ true → arc ≡ all
+  tested-done e = ⊎-elim (λ p. p .1) (λ p. clash done e (p .0)) w
+
+  module _ (l : n < bound) (h : x ≡ 0 → ⊥) (z : ℕ) (ez : z ≡ g x) (er : r ≡ held z) (y : ℕ) (ey : y ≡ step x) where
+    pub tested-closed : y ≡ first → arc ≡ all
+    tested-closed c = ⊎-elim (λ p. p .1) (λ p. p .1 ∙ seeking-closed (p .3) l h z ez r er (p .2) y ey c) w
+
+    module _ (onward : y ≡ first → ⊥) where
+      pub tested-circle : y ≡ saved → arc ≡ all
+      tested-circle c = ⊎-elim (λ p. p .1) (λ p. p .1 ∙ seeking-circle (p .3) l h z ez r er (p .2) y ey onward c) w
+
+      pub tested-on : (saved′ : ℕ) → (saved′ ≡ saved) ⊎ (saved′ ≡ y) → Comes held g step first bound all (n + 1) y saved′ done arc
+      tested-on saved′ es = ⊎-elim (λ p. inl p) (λ p. inr (p .0, p .1, seeking-on (p .3) l h z ez r er (p .2) y ey onward saved′ es)) w
 
 -- ---- the two searches of a list
 
@@ -162,17 +213,22 @@ map-same [] = refl
 map-same (x ∷ xs) = ap {B = List ℕ} (λ r. x ∷ r) (map-same xs)
 
 module _ (arcs edges : Table) (soon : List ℕ) (first : ℕ) where
-  abbrev pub SeekingOut : ℕ → ℕ → ℕ → Type 0
-  SeekingOut n x saved = Seeking (heldIn arcs soon) (λ x. x) (turnIn arcs edges) first (length arcs) (outFrom arcs edges soon first) n x saved
+  abbrev pub ComesOut : ℕ → ℕ → ℕ → Bool → ℕ → Type 0
+  ComesOut n x saved done arc = Comes (heldIn arcs soon) (λ x. x) (turnIn arcs edges) first (length arcs) (outFrom arcs edges soon first) n x saved done arc
 
-  abbrev pub SeekingBack : ℕ → ℕ → ℕ → Type 0
-  SeekingBack n x saved = Seeking (heldIn arcs soon) (oppositeOf arcs edges) (turnIn arcs edges) first (length arcs) (backFrom arcs edges soon first) n x saved
+  abbrev pub ComesBack : ℕ → ℕ → ℕ → Bool → ℕ → Type 0
+  ComesBack n x saved done arc = Comes (heldIn arcs soon) (oppositeOf arcs edges) (turnIn arcs edges) first (length arcs) (backFrom arcs edges soon first) n x saved done arc
 
-  pub start-out : SeekingOut 0 first first
+  -- next of the opposite comes after an arc
+  pub turned : (x o y : ℕ) → o ≡ oppositeOf arcs edges x → y ≡ cell arcs o 2 → y ≡ turnIn arcs edges x
+  unfolding turnIn
+  turned x o y e q = q ∙ ap (λ (z : ℕ). cell arcs z 2) e
+
+  pub start-out : Seeking (heldIn arcs soon) (λ x. x) (turnIn arcs edges) first (length arcs) (outFrom arcs edges soon first) 0 first first
   unfolding outFrom listFrom
   start-out = seeking-start (heldIn arcs soon) (λ x. x) (turnIn arcs edges) first (length arcs) (outFrom arcs edges soon first) (ap (firstFree (heldIn arcs soon)) (sym (map-same (walk (turnIn arcs edges) first (length arcs) first))))
 
-  pub start-back : SeekingBack 0 first first
+  pub start-back : Seeking (heldIn arcs soon) (oppositeOf arcs edges) (turnIn arcs edges) first (length arcs) (backFrom arcs edges soon first) 0 first first
   unfolding backFrom listFrom
   start-back = seeking-start (heldIn arcs soon) (oppositeOf arcs edges) (turnIn arcs edges) first (length arcs) (backFrom arcs edges soon first) refl
 

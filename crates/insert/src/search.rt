@@ -8,8 +8,8 @@ use rules::Links;
 use rules::RING;
 use rules::VertexRow;
 use tables::rows;
-use walks::lists as vertexlists;
 ghost use mathlib.Core.Path.{_≡_};
+ghost use mathlib.Core.Bool.{true};
 ghost use mathlib.Core.List.{List, [], _++_};
 ghost use mathlib.Core.Logic.{_⊎_};
 ghost use Prim.Native.Nat.{ℕ};
@@ -19,7 +19,7 @@ ghost use Rattle.rules.specs.Table.{Table};
 ghost use Rattle.rules.specs.Mesh.{listOf};
 ghost use Rattle.rules.specs.Lent.{unlent, meshBefore};
 ghost use Rattle.makers.specs.Search.{heldIn, outFrom, backFrom, soughtFor};
-ghost use Rattle.insert.specs.Sought.{soughtOf};
+ghost use Rattle.insert.specs.Sought.{soughtOf, Tries};
 
 // What was found for each vertex of a perimeter: the first free arc of its list, and the first free opposite, 0 where there is none.
 pub struct Sought {
@@ -70,48 +70,44 @@ fn saved_at(k: usize, saved: u32, x: u32) -> u32
     saved
 }
 
-// The first arc of the list from first that is not held, or none. A list that runs in a circle past its first arc is left where it meets the saved
-// arc, by Brent's method: all that follows was met before.
-fn free_out(
-    arcs: &[ArcRow],
-    edges: &[EdgeRow],
-    mine: &[u32; RING],
-    m: usize,
-    others: &[u32; RING],
-    n: usize,
-    first: u32,
-) -> u32
-    ensures { λ r. ⌜
-        r ≡ outFrom (now (arcs .entry)) (now (edges .entry)) (take m (now (mine .entry)) ++ take n (now (others .entry))) first
-        ⌝ }
-{
-    let mut found = 0;
-    let mut x = first;
-    let mut saved = first;
-    let mut k: usize = 0;
-    while k < arcs.len() {
-        if x == 0 {
-            break;
-        }
-        if !is_held(arcs, mine, m, others, n, x) {
-            found = x;
-            break;
-        }
-        x = vertexlists::turn(arcs, edges, x);
-        if x == first {
-            break;
-        }
-        if x == saved {
-            break;
-        }
-        k += 1;
-        saved = saved_at(k, saved, x);
-    }
-    found
+// How far a search has come: whether it is done, and the arc that it found.
+struct Progress {
+    done: bool,
+    arc: u32,
 }
 
-// The first of the opposites of the list's arcs that is not held, or none.
-fn free_back(
+// What both searches of a list found.
+struct Free {
+    out: u32,
+    back: u32,
+}
+
+// A search tries an arc: it is done where the arc is not held, unless it was done before.
+fn tried(done: bool, arc: u32, held: bool, x: u32) -> Progress
+    ensures { λ r. ⌜ Tries done arc held x (r .done) (r .arc) ⌝ }
+{
+    if done {
+        return Progress { done, arc };
+    }
+    if held {
+        return Progress { done, arc };
+    }
+    Progress { done: true, arc: x }
+}
+
+// Whether both searches are done.
+fn both(one: bool, other: bool) -> bool
+    ensures { λ r. ⌜ (r ≡ true → (one ≡ true) × (other ≡ true)) ⌝ }
+{
+    if one {
+        return other;
+    }
+    false
+}
+
+// The first arc of the list from first that is not held, and the first of the opposites of its arcs, or none, in one walk. A list that runs in a circle
+// past its first arc is left where it meets the saved arc, by Brent's method: all that follows was met before.
+fn free_arcs(
     arcs: &[ArcRow],
     edges: &[EdgeRow],
     mine: &[u32; RING],
@@ -119,12 +115,16 @@ fn free_back(
     others: &[u32; RING],
     n: usize,
     first: u32,
-) -> u32
+) -> Free
     ensures { λ r. ⌜
-        r ≡ backFrom (now (arcs .entry)) (now (edges .entry)) (take m (now (mine .entry)) ++ take n (now (others .entry))) first
+        (r .out ≡ outFrom (now (arcs .entry)) (now (edges .entry)) (take m (now (mine .entry)) ++ take n (now (others .entry))) first)
+        × (r .back ≡ backFrom (now (arcs .entry)) (now (edges .entry)) (take m (now (mine .entry)) ++ take n (now (others .entry))) first)
         ⌝ }
 {
-    let mut found = 0;
+    let mut out_done = false;
+    let mut out = 0;
+    let mut back_done = false;
+    let mut back = 0;
     let mut x = first;
     let mut saved = first;
     let mut k: usize = 0;
@@ -132,12 +132,17 @@ fn free_back(
         if x == 0 {
             break;
         }
-        let back = rows::opposite(arcs, edges, x);
-        if !is_held(arcs, mine, m, others, n, back) {
-            found = back;
+        let o = rows::opposite(arcs, edges, x);
+        let there = tried(out_done, out, is_held(arcs, mine, m, others, n, x), x);
+        out_done = there.done;
+        out = there.arc;
+        let here = tried(back_done, back, is_held(arcs, mine, m, others, n, o), o);
+        back_done = here.done;
+        back = here.arc;
+        if both(out_done, back_done) {
             break;
         }
-        x = vertexlists::turn(arcs, edges, x);
+        x = rows::cell6(arcs, o, 2);
         if x == first {
             break;
         }
@@ -147,7 +152,7 @@ fn free_back(
         k += 1;
         saved = saved_at(k, saved, x);
     }
-    found
+    Free { out, back }
 }
 
 // The search for every vertex of a perimeter. Soon to be held are the perimeter's own arcs, found, and others beside.
@@ -175,8 +180,9 @@ pub fn search_lists(
     let mut i: usize = 0;
     while i < n {
         let first = rows::cell2(vertices, from[i], 1);
-        outs[i] = free_out(arcs, edges, &mine, found.len, &theirs, others.len, first);
-        backs[i] = free_back(arcs, edges, &mine, found.len, &theirs, others.len, first);
+        let free = free_arcs(arcs, edges, &mine, found.len, &theirs, others.len, first);
+        outs[i] = free.out;
+        backs[i] = free.back;
         i += 1;
     }
     Sought {

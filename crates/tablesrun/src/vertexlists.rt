@@ -19,10 +19,6 @@ pub fn run() {
         [1, 3, 4, 2, 0, 3],
     ];
     let edges: [EdgeRow; 3] = [[1, 1, 2], [2, 3, 4], [3, 5, 6]];
-    say::number(
-        b"after arc 1 in its vertex's list",
-        walks::lists::turn(&arcs, &edges, 1),
-    );
     closed(&vertices, &arcs, &edges);
     open(&vertices, &mut arcs, &edges);
     circle(&vertices, &mut arcs, &edges);

@@ -27,18 +27,18 @@ loop-holds c = (search needs, (refl, refl))
 
 loop-again : tie.Need-loop-again Inv-loop μ-loop
 loop-again c =
-    let l = c .before .before .before .before .before .before .before .before in
+    let l = c .before .before .before .before .before in
     let n = l .before .before .before .before .before .size in
     let a = l .before .before .before .before .before .before .args in
-    let on : l .loop .i < n .result = c .before .before .before .before .before .before .before .loop-test .taken in
+    let on : l .loop .i < n .result = c .before .before .before .before .loop-test .taken in
     let xs : List ℕ = take (n .result) (a .per .at) in
     let soon : List ℕ = take (a .found .len) (a .found .at) ++ take (a .others .len) (a .others .at) in
     let all : xs ≡ listOf (a .per) = list-taken (a .per) (n .result) (n .ensures) in
     let here : getD xs (l .loop .i) 0 ≡ getD (a .per .at) (l .loop .i) 0 = getD-take (n .result) (a .per .at) (l .loop .i) 0 on in
-    let first : c .before .before .before .before .before .before .cell2 .result ≡ cell (a .vertices .now) (getD xs (l .loop .i) 0) 1 = rw here (c .before .before .before .before .before .before .cell2 .ensures) in
+    let first : c .before .before .before .cell2 .result ≡ cell (a .vertices .now) (getD xs (l .loop .i) 0) 1 = rw here (c .before .before .before .cell2 .ensures) in
     let inside : l .loop .i < length xs = omega (arith, ap length all, n .ensures, on) in
     let few : length xs ≤ 64 = omega (arith, ap length all, l .before .before .before .before .known-few .ensures) in
-    (search needs, (made-more (outOf (a .vertices .now) (a .arcs .now) (a .edges .now) soon) xs (l .loop .outs) (l .loop .i) (c .before .before .before .free-out .result) inside few (c .before .before .before .free-out .ensures ∙ ap (outFrom (a .arcs .now) (a .edges .now) soon) first) (l .loop .inv .1 .0), made-more (backOf (a .vertices .now) (a .arcs .now) (a .edges .now) soon) xs (l .loop .backs) (l .loop .i) (c .free-back .result) inside few (c .free-back .ensures ∙ ap (backFrom (a .arcs .now) (a .edges .now) soon) first) (l .loop .inv .1 .1)))
+    (search needs, (made-more (outOf (a .vertices .now) (a .arcs .now) (a .edges .now) soon) xs (l .loop .outs) (l .loop .i) (c .free-arcs .result .out) inside few (c .free-arcs .ensures .0 ∙ ap (outFrom (a .arcs .now) (a .edges .now) soon) first) (l .loop .inv .1 .0), made-more (backOf (a .vertices .now) (a .arcs .now) (a .edges .now) soon) xs (l .loop .backs) (l .loop .i) (c .free-arcs .result .back) inside few (c .free-arcs .ensures .1 ∙ ap (backFrom (a .arcs .now) (a .edges .now) soon) first) (l .loop .inv .1 .1)))
 
 returns : tie.Need-returns Inv-loop μ-loop
 unfolding listOf
@@ -68,7 +68,6 @@ search-lists-spec =
     (λ c κs. search needs)
     (λ c. search needs)
     (λ c. search needs)
-    (λ c κs. search needs)
     (λ c. search needs)
     (λ c. search needs)
     (λ c. search needs)

@@ -1,0 +1,14 @@
+pub mod Cells
+pub mod Whole
+pub mod Examples
+pub mod Rows
+pub mod Rowed
+pub mod ReadWrite
+pub mod Told
+pub mod Listed
+pub mod Placed
+pub mod Renamed
+pub mod Moved
+pub mod WriteRead
+pub mod Calls
+pub mod At
