@@ -31,7 +31,7 @@ lookIn slots names name = probe slots names name 128 (slotOf name)
 
 -- the part that a name is of, 0 or 1; and whether a part has nothing to do with a name: it is none, or of the other part
 unfoldable pub partOf : ℕ → ℕ
-partOf name = name * 3645161217 / 4194304 / 8192 % 2
+partOf name = name / 64 % 2
 
 unfoldable pub passedBy : ℕ → ℕ → Bool
 passedBy part name = eqb name 0 || not (eqb (partOf name) part)
