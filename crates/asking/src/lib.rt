@@ -1,6 +1,8 @@
 // One line of a script run on a lent mesh, with working room of its own: what the programs corners and replay do for each line that they hold
 // against its answer.
 
+#![tactic(auto)]
+
 ghost use Rattle.std.specs.Prelude.{◌≤◌, length};
 
 use runs::{Arcs, Edges, Faces, Positions, Vertices, run};

@@ -1,9 +1,10 @@
 // Bridge. Document 01's rule 9: "Remove both; pair source arcs in order with destination arcs reversed; arc bridge each pair; the answer is
 // key 0."
 
+#![tactic(auto)]
+
 ghost use Rattle.std.specs.Prelude.{◌≡◌, List, reverse, ℕ, length, get_or, Float};
-ghost use Rattle.rules.specs.Mesh.{list_of};
-ghost use Rattle.rules.specs.Lent.{unlent, mesh_before, mesh_after};
+ghost use Rattle.rules.specs.Mesh.{list_of, mesh};
 ghost use Rattle.rules.specs.Step.{step};
 ghost use Rattle.makers.specs.Makers.{searching, arc_bridge_by, bridge_work_by};
 ghost use Rattle.edits.specs.Each.{each_in};
@@ -31,9 +32,9 @@ fn pairs_in(
     back: Links,
 ) -> Answer
     requires { Known arcs.old edges.old faces.old seen.now near.now around }
-    ensures { step (mesh_after vertices positions arcs edges faces counters) result
+    ensures { step (mesh vertices.new positions.now arcs.new edges.new faces.new counters.new) result
         ≡ each_in (λ i a. arc_bridge_by searching a (get_or (list_of forth) i 0) (get_or (reverse (list_of back)) i 0)) (length (list_of forth))
-        (mesh_before vertices positions arcs edges faces counters) }
+        (mesh vertices.old positions.now arcs.old edges.old faces.old counters.old) }
 {
     let n = lists::size(forth);
     let mut i: usize = 0;
@@ -62,9 +63,9 @@ fn pairs_near(
     forth: Links,
     back: Links,
 ) -> Answer
-    ensures { step (mesh_after vertices positions arcs edges faces counters) result
+    ensures { step (mesh vertices.new positions.now arcs.new edges.new faces.new counters.new) result
         ≡ each_in (λ i a. arc_bridge_by searching a (get_or (list_of forth) i 0) (get_or (reverse (list_of back)) i 0)) (length (list_of forth))
-        (mesh_before vertices positions arcs edges faces counters) }
+        (mesh vertices.old positions.now arcs.old edges.old faces.old counters.old) }
 {
     lists::known_few(forth);
     let made = lists::size(forth);
@@ -90,8 +91,8 @@ pub fn bridge_work(
     f: u32,
     g: u32,
 ) -> Answer
-    ensures { step (mesh_after vertices positions arcs edges faces counters) result
-        ≡ bridge_work_by searching (mesh_before vertices positions arcs edges faces counters) f g }
+    ensures { step (mesh vertices.new positions.now arcs.new edges.new faces.new counters.new) result
+        ≡ bridge_work_by searching (mesh vertices.old positions.now arcs.old edges.old faces.old counters.old) f g }
 {
     let forth = checks::rings::ring_of(arcs, faces, f);
     let back = checks::rings::ring_of(arcs, faces, g);

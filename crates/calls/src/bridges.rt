@@ -1,9 +1,9 @@
 // Arc bridge as a program in C or Rust calls it. Document 01's rule 8.
 
 ghost use Rattle.std.specs.Prelude.{◌≡◌};
-ghost use Rattle.rules.specs.Lent.{mesh_before, mesh_after, room_before, room_after};
 ghost use Rattle.rules.specs.Call as Calls;
 ghost use Rattle.calls.specs.Replied.{shown, replied};
+ghost use Rattle.rules.specs.Mesh.{mesh, room};
 
 use mesh::call;
 use rules::{ArcRow, Call, EdgeRow, Edit, FaceRow, PositionRow, Reply, VertexRow};
@@ -33,10 +33,10 @@ pub extern "C" fn ul_arc_bridge(
     c: u32,
     d: u32,
 ) -> Reply
-    ensures { shown result (mesh_after vertices positions arcs edges faces counters) (room_after v1 p1 a1 e1 f1) (room_after v2 p2 a2 e2 f2)
+    ensures { shown result (mesh vertices.new positions.new arcs.new edges.new faces.new counters.new) (room v1.new p1.new a1.new e1.new f1.new) (room v2.new p2.new a2.new e2.new f2.new)
         ≡ replied
-        (Calls.arc_bridge_call (mesh_before vertices positions arcs edges faces counters) (room_before v1 p1 a1 e1 f1)
-        (room_before v2 p2 a2 e2 f2) a b c d) }
+        (Calls.arc_bridge_call (mesh vertices.old positions.old arcs.old edges.old faces.old counters.old) (room v1.old p1.old a1.old e1.old f1.old)
+        (room v2.old p2.old a2.old e2.old f2.old) a b c d) }
 {
     let edit = Edit::ArcBridge(a, b, c, d);
     let call = Call { edit };

@@ -2,9 +2,9 @@
 
 ghost use Rattle.std.specs.Prelude.{◌≡◌};
 ghost use Rattle.rules.specs.declared.Move.TheVariants.{Shift, Scale};
-ghost use Rattle.rules.specs.Lent.{mesh_before, mesh_after, room_before, room_after};
 ghost use Rattle.rules.specs.Call as Calls;
 ghost use Rattle.calls.specs.Replied.{shown, replied};
+ghost use Rattle.rules.specs.Mesh.{mesh, room};
 
 use mesh::call;
 use rules::{ArcRow, Call, EdgeRow, Edit, FaceRow, Move, PositionRow, Reply, VertexRow};
@@ -34,9 +34,9 @@ pub extern "C" fn ul_face_extrude_shift(
     dy: f64,
     dz: f64,
 ) -> Reply
-    ensures { shown result (mesh_after vertices positions arcs edges faces counters) (room_after v1 p1 a1 e1 f1) (room_after v2 p2 a2 e2 f2)
+    ensures { shown result (mesh vertices.new positions.new arcs.new edges.new faces.new counters.new) (room v1.new p1.new a1.new e1.new f1.new) (room v2.new p2.new a2.new e2.new f2.new)
         ≡ replied
-        (Calls.face_extrude (mesh_before vertices positions arcs edges faces counters) (room_before v1 p1 a1 e1 f1) (room_before v2 p2 a2 e2 f2) face
+        (Calls.face_extrude (mesh vertices.old positions.old arcs.old edges.old faces.old counters.old) (room v1.old p1.old a1.old e1.old f1.old) (room v2.old p2.old a2.old e2.old f2.old) face
         (Shift dx dy dz)) }
 {
     let by = Move::Shift(dx, dy, dz);
@@ -90,9 +90,9 @@ pub extern "C" fn ul_face_extrude_scale(
     oz: f64,
     factor: f64,
 ) -> Reply
-    ensures { shown result (mesh_after vertices positions arcs edges faces counters) (room_after v1 p1 a1 e1 f1) (room_after v2 p2 a2 e2 f2)
+    ensures { shown result (mesh vertices.new positions.new arcs.new edges.new faces.new counters.new) (room v1.new p1.new a1.new e1.new f1.new) (room v2.new p2.new a2.new e2.new f2.new)
         ≡ replied
-        (Calls.face_extrude (mesh_before vertices positions arcs edges faces counters) (room_before v1 p1 a1 e1 f1) (room_before v2 p2 a2 e2 f2) face
+        (Calls.face_extrude (mesh vertices.old positions.old arcs.old edges.old faces.old counters.old) (room v1.old p1.old a1.old e1.old f1.old) (room v2.old p2.old a2.old e2.old f2.old) face
         (Scale ox oy oz factor)) }
 {
     let by = Move::Scale { ox, oy, oz, factor };
@@ -146,9 +146,9 @@ pub extern "C" fn ul_arc_extrude_shift(
     dy: f64,
     dz: f64,
 ) -> Reply
-    ensures { shown result (mesh_after vertices positions arcs edges faces counters) (room_after v1 p1 a1 e1 f1) (room_after v2 p2 a2 e2 f2)
+    ensures { shown result (mesh vertices.new positions.new arcs.new edges.new faces.new counters.new) (room v1.new p1.new a1.new e1.new f1.new) (room v2.new p2.new a2.new e2.new f2.new)
         ≡ replied
-        (Calls.arc_extrude (mesh_before vertices positions arcs edges faces counters) (room_before v1 p1 a1 e1 f1) (room_before v2 p2 a2 e2 f2) s d
+        (Calls.arc_extrude (mesh vertices.old positions.old arcs.old edges.old faces.old counters.old) (room v1.old p1.old a1.old e1.old f1.old) (room v2.old p2.old a2.old e2.old f2.old) s d
         (Shift dx dy dz)) }
 {
     let by = Move::Shift(dx, dy, dz);
@@ -203,9 +203,9 @@ pub extern "C" fn ul_arc_extrude_scale(
     oz: f64,
     factor: f64,
 ) -> Reply
-    ensures { shown result (mesh_after vertices positions arcs edges faces counters) (room_after v1 p1 a1 e1 f1) (room_after v2 p2 a2 e2 f2)
+    ensures { shown result (mesh vertices.new positions.new arcs.new edges.new faces.new counters.new) (room v1.new p1.new a1.new e1.new f1.new) (room v2.new p2.new a2.new e2.new f2.new)
         ≡ replied
-        (Calls.arc_extrude (mesh_before vertices positions arcs edges faces counters) (room_before v1 p1 a1 e1 f1) (room_before v2 p2 a2 e2 f2) s d
+        (Calls.arc_extrude (mesh vertices.old positions.old arcs.old edges.old faces.old counters.old) (room v1.old p1.old a1.old e1.old f1.old) (room v2.old p2.old a2.old e2.old f2.old) s d
         (Scale ox oy oz factor)) }
 {
     let by = Move::Scale { ox, oy, oz, factor };

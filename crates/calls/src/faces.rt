@@ -1,10 +1,10 @@
 // Face insert, remove, split, poke and bridge as a program in C or Rust calls them. Document 01's rules 2, 5, 6, 7 and 9.
 
 ghost use Rattle.std.specs.Prelude.{◌≡◌};
-ghost use Rattle.rules.specs.Lent.{mesh_before, mesh_after, room_before, room_after};
 ghost use Rattle.rules.specs.Point.{position};
 ghost use Rattle.rules.specs.Call as Calls;
 ghost use Rattle.calls.specs.Replied.{shown, replied};
+ghost use Rattle.rules.specs.Mesh.{mesh, room};
 
 use mesh::call;
 use rules::{ArcRow, Call, EdgeRow, Edit, FaceRow, Position, PositionRow, Reply, VertexRow};
@@ -32,9 +32,9 @@ pub extern "C" fn ul_face_insert(
     mark: u32,
     keys: &[u32],
 ) -> Reply
-    ensures { shown result (mesh_after vertices positions arcs edges faces counters) (room_after v1 p1 a1 e1 f1) (room_after v2 p2 a2 e2 f2)
+    ensures { shown result (mesh vertices.new positions.new arcs.new edges.new faces.new counters.new) (room v1.new p1.new a1.new e1.new f1.new) (room v2.new p2.new a2.new e2.new f2.new)
         ≡ replied
-        (Calls.face_insert (mesh_before vertices positions arcs edges faces counters) (room_before v1 p1 a1 e1 f1) (room_before v2 p2 a2 e2 f2)
+        (Calls.face_insert (mesh vertices.old positions.old arcs.old edges.old faces.old counters.old) (room v1.old p1.old a1.old e1.old f1.old) (room v2.old p2.old a2.old e2.old f2.old)
         keys.now mark) }
 {
     let edit = Edit::FaceInsert(mark);
@@ -66,9 +66,9 @@ pub extern "C" fn ul_face_remove(
     f2: &mut [FaceRow],
     face: u32,
 ) -> Reply
-    ensures { shown result (mesh_after vertices positions arcs edges faces counters) (room_after v1 p1 a1 e1 f1) (room_after v2 p2 a2 e2 f2)
+    ensures { shown result (mesh vertices.new positions.new arcs.new edges.new faces.new counters.new) (room v1.new p1.new a1.new e1.new f1.new) (room v2.new p2.new a2.new e2.new f2.new)
         ≡ replied
-        (Calls.face_remove (mesh_before vertices positions arcs edges faces counters) (room_before v1 p1 a1 e1 f1) (room_before v2 p2 a2 e2 f2) face) }
+        (Calls.face_remove (mesh vertices.old positions.old arcs.old edges.old faces.old counters.old) (room v1.old p1.old a1.old e1.old f1.old) (room v2.old p2.old a2.old e2.old f2.old) face) }
 {
     let edit = Edit::FaceRemove(face);
     let call = Call { edit };
@@ -118,9 +118,9 @@ pub extern "C" fn ul_face_split(
     s: u32,
     d: u32,
 ) -> Reply
-    ensures { shown result (mesh_after vertices positions arcs edges faces counters) (room_after v1 p1 a1 e1 f1) (room_after v2 p2 a2 e2 f2)
+    ensures { shown result (mesh vertices.new positions.new arcs.new edges.new faces.new counters.new) (room v1.new p1.new a1.new e1.new f1.new) (room v2.new p2.new a2.new e2.new f2.new)
         ≡ replied
-        (Calls.face_split (mesh_before vertices positions arcs edges faces counters) (room_before v1 p1 a1 e1 f1) (room_before v2 p2 a2 e2 f2) face s d) }
+        (Calls.face_split (mesh vertices.old positions.old arcs.old edges.old faces.old counters.old) (room v1.old p1.old a1.old e1.old f1.old) (room v2.old p2.old a2.old e2.old f2.old) face s d) }
 {
     let edit = Edit::FaceSplit(face, s, d);
     let call = Call { edit };
@@ -171,9 +171,9 @@ pub extern "C" fn ul_face_poke(
     y: f64,
     z: f64,
 ) -> Reply
-    ensures { shown result (mesh_after vertices positions arcs edges faces counters) (room_after v1 p1 a1 e1 f1) (room_after v2 p2 a2 e2 f2)
+    ensures { shown result (mesh vertices.new positions.new arcs.new edges.new faces.new counters.new) (room v1.new p1.new a1.new e1.new f1.new) (room v2.new p2.new a2.new e2.new f2.new)
         ≡ replied
-        (Calls.face_poke (mesh_before vertices positions arcs edges faces counters) (room_before v1 p1 a1 e1 f1) (room_before v2 p2 a2 e2 f2) face
+        (Calls.face_poke (mesh vertices.old positions.old arcs.old edges.old faces.old counters.old) (room v1.old p1.old a1.old e1.old f1.old) (room v2.old p2.old a2.old e2.old f2.old) face
         (position x y z)) }
 {
     let position = Position { x, y, z };
@@ -224,10 +224,10 @@ pub extern "C" fn ul_face_bridge(
     source: u32,
     destination: u32,
 ) -> Reply
-    ensures { shown result (mesh_after vertices positions arcs edges faces counters) (room_after v1 p1 a1 e1 f1) (room_after v2 p2 a2 e2 f2)
+    ensures { shown result (mesh vertices.new positions.new arcs.new edges.new faces.new counters.new) (room v1.new p1.new a1.new e1.new f1.new) (room v2.new p2.new a2.new e2.new f2.new)
         ≡ replied
-        (Calls.face_bridge (mesh_before vertices positions arcs edges faces counters) (room_before v1 p1 a1 e1 f1)
-        (room_before v2 p2 a2 e2 f2) source destination) }
+        (Calls.face_bridge (mesh vertices.old positions.old arcs.old edges.old faces.old counters.old) (room v1.old p1.old a1.old e1.old f1.old)
+        (room v2.old p2.old a2.old e2.old f2.old) source destination) }
 {
     let edit = Edit::FaceBridge(source, destination);
     let call = Call { edit };

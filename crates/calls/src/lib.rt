@@ -1,6 +1,8 @@
 // The public calls: thin over the transaction, exported for programs in C and Rust. A slice passes as a pointer and a count. Each call's
 // statement is the definition of that call in rules, with its answer told in numbers, for every lent table, counter, room and argument.
 
+#![tactic(auto)]
+
 pub mod bridges;
 pub mod extrudes;
 pub mod faces;

@@ -1,9 +1,9 @@
 // The queries as a program in C or Rust calls them: arity of a face, and the check. They change nothing.
 
 ghost use Rattle.std.specs.Prelude.{◌≡◌};
-ghost use Rattle.rules.specs.Lent.{mesh_before};
 ghost use Rattle.rules.specs.Step.{told};
 ghost use Rattle.rules.specs.Call.{check_mesh, face_arity};
+ghost use Rattle.rules.specs.Mesh.{mesh};
 
 use rules::{ArcRow, EdgeRow, FaceRow, PositionRow, Reply, VertexRow};
 use tables::answers;
@@ -17,7 +17,7 @@ pub extern "C" fn ul_check(
     faces: &[FaceRow],
     counters: &[u32; 3],
 ) -> Reply
-    ensures { result ≡ told (check_mesh (mesh_before vertices positions arcs edges faces counters)) }
+    ensures { result ≡ told (check_mesh (mesh vertices.now positions.now arcs.now edges.now faces.now counters.now)) }
 {
     answers::told(sound::queries::check_mesh(vertices, positions, arcs, edges, faces, counters))
 }
@@ -32,7 +32,7 @@ pub extern "C" fn ul_face_arity(
     counters: &[u32; 3],
     face: u32,
 ) -> Reply
-    ensures { result ≡ told (face_arity (mesh_before vertices positions arcs edges faces counters) face) }
+    ensures { result ≡ told (face_arity (mesh vertices.now positions.now arcs.now edges.now faces.now counters.now) face) }
 {
     answers::told(sound::queries::face_arity(
         vertices, positions, arcs, edges, faces, counters, face,

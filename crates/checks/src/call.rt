@@ -5,7 +5,6 @@ ghost use Rattle.std.specs.Prelude.{◌≡◌, cond, List, [], ◌∷◌, ℕ, �
 ghost use Rattle.rules.specs.declared.Edit.TheVariants.{FaceInsert};
 ghost use Rattle.rules.specs.Table.{Table};
 ghost use Rattle.rules.specs.Mesh.{mesh, list_of, find_key};
-ghost use Rattle.rules.specs.Lent.{unlent, mesh_before};
 ghost use Rattle.rules.specs.Call as Call;
 ghost use Rattle.checks.specs.Most.{AtMost, most};
 
@@ -74,7 +73,7 @@ pub fn checks_of(
     keys: &[u32],
 ) -> Answer
     ensures { ((mark : ℕ) → edit ≡ FaceInsert mark → length keys.now ≤ 64) → (es : Table) (ks : List ℕ) →
-        result ≡ Call.checks (mesh_before vertices positions arcs (unlent es) faces (unlent ks)) edit keys.now }
+        result ≡ Call.checks (mesh vertices.now positions.now arcs.now es faces.now ks) edit keys.now }
 {
     match edit {
         Edit::VertexInsert(_) => Answer::Done,
@@ -113,7 +112,7 @@ pub fn moves_finite(
     faces: &[FaceRow],
     edit: Edit,
 ) -> bool
-    ensures { (es : Table) (ks : List ℕ) → result ≡ Call.moves_finite (mesh_before vertices positions arcs (unlent es) faces (unlent ks)) edit }
+    ensures { (es : Table) (ks : List ℕ) → result ≡ Call.moves_finite (mesh vertices.now positions.now arcs.now es faces.now ks) edit }
 {
     match edit {
         Edit::VertexInsert(_) => true,
@@ -276,7 +275,7 @@ pub fn room_for(
     need: Need,
 ) -> bool
     ensures { (ps : List (List Float)) (ar : Table) →
-        result ≡ Call.room_for (mesh_before vertices (unlent ps) (unlent ar) edges faces counters)
+        result ≡ Call.room_for (mesh vertices.now ps ar edges.now faces.now counters.now)
         (Call.needs need.vertices need.edges need.faces need.facekeys) }
 {
     if !rows_for(vertices, edges, faces, need) {

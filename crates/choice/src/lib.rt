@@ -1,10 +1,11 @@
 // The edits by keys, each on one set of tables behind its checks, and the choice among them: document 01's nine edits.
 
+#![tactic(auto)]
+
 ghost use Rattle.std.specs.Prelude.{◌≡◌, List, ℕ, ◌≤◌, length, Float};
 ghost use Rattle.rules.specs.declared.Edit.TheVariants.{VertexInsert, FaceInsert, FaceRemove, FaceSplit, FacePoke, FaceBridge, FaceExtrude, ArcBridge, ArcExtrude};
 ghost use Rattle.rules.specs.Table.{Table};
 ghost use Rattle.rules.specs.Mesh.{mesh};
-ghost use Rattle.rules.specs.Lent.{unlent, mesh_before, mesh_after};
 ghost use Rattle.rules.specs.Step.{step};
 ghost use Rattle.makers.specs.Makers.{searching, work_by};
 
@@ -38,8 +39,8 @@ fn face_insert(
 ) -> Answer
     requires { length keys.now ≤ 64 }
     ensures { (p : List (List Float)) →
-        step (mesh_after vertices (unlent p) arcs edges faces counters) result
-        ≡ work_by searching (mesh_before vertices (unlent p) arcs edges faces counters) (FaceInsert mark) keys.now }
+        step (mesh vertices.new p arcs.new edges.new faces.new counters.new) result
+        ≡ work_by searching (mesh vertices.old p arcs.old edges.old faces.old counters.old) (FaceInsert mark) keys.now }
 {
     let names = lists::from_keys(keys);
     let per = lists::vertices_by_keys(vertices, names);
@@ -71,8 +72,8 @@ fn face_split(
     d: u32,
 ) -> Answer
     ensures { (ks : List ℕ) →
-        step (mesh_after vertices positions arcs edges faces counters) result
-        ≡ work_by searching (mesh_before vertices positions arcs edges faces counters) (FaceSplit face s d) ks }
+        step (mesh vertices.new positions.now arcs.new edges.new faces.new counters.new) result
+        ≡ work_by searching (mesh vertices.old positions.now arcs.old edges.old faces.old counters.old) (FaceSplit face s d) ks }
 {
     let f = rows::find_key3(faces, face);
     let from = rows::find_key2(vertices, s);
@@ -93,8 +94,8 @@ fn face_poke(
     position: Position,
 ) -> Answer
     ensures { (ks : List ℕ) →
-        step (mesh_after vertices positions arcs edges faces counters) result
-        ≡ work_by searching (mesh_before vertices positions arcs edges faces counters) (FacePoke face position) ks }
+        step (mesh vertices.new positions.new arcs.new edges.new faces.new counters.new) result
+        ≡ work_by searching (mesh vertices.old positions.old arcs.old edges.old faces.old counters.old) (FacePoke face position) ks }
 {
     let f = rows::find_key3(faces, face);
     poke::poke_work(
@@ -113,8 +114,8 @@ fn face_bridge(
     destination: u32,
 ) -> Answer
     ensures { (ks : List ℕ) →
-        step (mesh_after vertices positions arcs edges faces counters) result
-        ≡ work_by searching (mesh_before vertices positions arcs edges faces counters) (FaceBridge source destination) ks }
+        step (mesh vertices.new positions.now arcs.new edges.new faces.new counters.new) result
+        ≡ work_by searching (mesh vertices.old positions.now arcs.old edges.old faces.old counters.old) (FaceBridge source destination) ks }
 {
     let f = rows::find_key3(faces, source);
     let g = rows::find_key3(faces, destination);
@@ -132,8 +133,8 @@ fn face_extrude(
     by: Move,
 ) -> Answer
     ensures { (ks : List ℕ) →
-        step (mesh_after vertices positions arcs edges faces counters) result
-        ≡ work_by searching (mesh_before vertices positions arcs edges faces counters) (FaceExtrude face by) ks }
+        step (mesh vertices.new positions.new arcs.new edges.new faces.new counters.new) result
+        ≡ work_by searching (mesh vertices.old positions.old arcs.old edges.old faces.old counters.old) (FaceExtrude face by) ks }
 {
     let f = rows::find_key3(faces, face);
     extrude::extrude_work(vertices, positions, arcs, edges, faces, counters, f, by)
@@ -151,8 +152,8 @@ fn arc_bridge(
     d: u32,
 ) -> Answer
     ensures { (p : List (List Float)) (ks : List ℕ) →
-        step (mesh_after vertices (unlent p) arcs edges faces counters) result
-        ≡ work_by searching (mesh_before vertices (unlent p) arcs edges faces counters) (ArcBridge a b c d) ks }
+        step (mesh vertices.new p arcs.new edges.new faces.new counters.new) result
+        ≡ work_by searching (mesh vertices.old p arcs.old edges.old faces.old counters.old) (ArcBridge a b c d) ks }
 {
     let four = checks::call::four_by_keys(vertices, a, b, c, d);
     edits::arc::arc_bridge_work(vertices, arcs, edges, faces, counters, four)
@@ -170,8 +171,8 @@ fn arc_extrude(
     by: Move,
 ) -> Answer
     ensures { (ks : List ℕ) →
-        step (mesh_after vertices positions arcs edges faces counters) result
-        ≡ work_by searching (mesh_before vertices positions arcs edges faces counters) (ArcExtrude s d by) ks }
+        step (mesh vertices.new positions.new arcs.new edges.new faces.new counters.new) result
+        ≡ work_by searching (mesh vertices.old positions.old arcs.old edges.old faces.old counters.old) (ArcExtrude s d by) ks }
 {
     let x = checks::call::arc_by_keys(vertices, arcs, s, d);
     edits::arc::arc_extrude_work(vertices, positions, arcs, edges, faces, counters, x, by)
@@ -189,8 +190,8 @@ pub fn work(
     keys: &[u32],
 ) -> Answer
     requires { (mark : ℕ) → edit ≡ FaceInsert mark → length keys.now ≤ 64 }
-    ensures { step (mesh_after vertices positions arcs edges faces counters) result
-        ≡ work_by searching (mesh_before vertices positions arcs edges faces counters) edit keys.now }
+    ensures { step (mesh vertices.new positions.new arcs.new edges.new faces.new counters.new) result
+        ≡ work_by searching (mesh vertices.old positions.old arcs.old edges.old faces.old counters.old) edit keys.now }
 {
     match edit {
         Edit::VertexInsert(position) => vertex_insert(vertices, positions, counters, position),

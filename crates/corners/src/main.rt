@@ -1,5 +1,7 @@
 // Runs document 01's corners that are not starred, each from an empty mesh, and prints a line for each: `ok`, or what differs.
 
+#![tactic(auto)]
+
 mod asked; // asked.rt: the lines of each corner, with their answers
 mod texts; // texts.rt: the texts of a line and of an answer
 

@@ -4,7 +4,6 @@
 ghost use Rattle.std.specs.Prelude.{◌≡◌, List, ℕ, Float};
 ghost use Rattle.rules.specs.Table.{Table, free_row};
 ghost use Rattle.rules.specs.Mesh.{mesh};
-ghost use Rattle.rules.specs.Lent.{unlent, mesh_before, mesh_after};
 ghost use Rattle.rules.specs.Link.{new_arc, new_edge, get_or_insert_edge};
 ghost use Rattle.edges.specs.Free.{UsedBefore};
 
@@ -47,7 +46,7 @@ pub fn new_edge_from(
     requires { UsedBefore arcs.old from.arc × UsedBefore edges.old from.edge }
     ensures { (result ≡ record { arc = free_row arcs.old; edge = free_row edges.old; face = from.face })
         × ((p : List (List Float)) (f : Table) →
-        mesh_after vertices (unlent p) arcs edges (unlent f) counters ≡ new_edge (mesh_before vertices (unlent p) arcs edges (unlent f) counters) a b) }
+        mesh vertices.new p arcs.new edges.new f counters.new ≡ new_edge (mesh vertices.old p arcs.old edges.old f counters.old) a b) }
 {
     let row = free::free3(edges, from.edge);
     let x = new_arc(vertices, arcs, from.arc, a, b, row);
@@ -72,7 +71,7 @@ pub fn new_edge(
     b: u32,
 )
     ensures { (p : List (List Float)) (f : Table) →
-        mesh_after vertices (unlent p) arcs edges (unlent f) counters ≡ new_edge (mesh_before vertices (unlent p) arcs edges (unlent f) counters) a b }
+        mesh vertices.new p arcs.new edges.new f counters.new ≡ new_edge (mesh vertices.old p arcs.old edges.old f counters.old) a b }
 {
     let from = Lowest {
         arc: 0,
@@ -92,8 +91,8 @@ pub fn get_or_insert_edge(
     b: u32,
 )
     ensures { (p : List (List Float)) (f : Table) →
-        mesh_after vertices (unlent p) arcs edges (unlent f) counters
-        ≡ get_or_insert_edge (mesh_before vertices (unlent p) arcs edges (unlent f) counters) a b }
+        mesh vertices.new p arcs.new edges.new f counters.new
+        ≡ get_or_insert_edge (mesh vertices.old p arcs.old edges.old f counters.old) a b }
 {
     if rows::find_arc(arcs, a, b) == 0 {
         new_edge(vertices, arcs, edges, counters, a, b);

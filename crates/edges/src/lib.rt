@@ -3,6 +3,8 @@
 // Each takes the lowest unused row and the next key of its kind. Everything is defined on every table: where no row is free, what
 // would be written is written nowhere, and a counter at its top stays.
 
+#![tactic(auto)]
+
 mod blocks;
 pub mod edge;
 pub mod face;

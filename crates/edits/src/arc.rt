@@ -3,12 +3,12 @@
 // (c,d), then arc bridge of (a,b) and (c,d); the answer is (c,d)."
 
 ghost use Rattle.std.specs.Prelude.{◌≡◌, List, Float};
-ghost use Rattle.rules.specs.Lent.{unlent, mesh_before, mesh_after};
 ghost use Rattle.rules.specs.Step.{step};
 ghost use Rattle.makers.specs.Makers.{searching, arc_bridge_work_by, arc_bridge_by, arc_extrude_work_by};
 ghost use Rattle.checks.specs.Between.{one_of, other_of};
 ghost use Rattle.edits.specs.Each.{joined_by};
 ghost use Rattle.edits.specs.Known.{Known};
+ghost use Rattle.rules.specs.Mesh.{mesh};
 
 use crate::near::Around;
 use crate::{near, pieces};
@@ -31,8 +31,8 @@ pub fn arc_bridge_work(
     four: [u32; 4],
 ) -> Answer
     ensures { (p : List (List Float)) →
-        step (mesh_after vertices (unlent p) arcs edges faces counters) result
-        ≡ arc_bridge_work_by searching (mesh_before vertices (unlent p) arcs edges faces counters) (one_of arcs.old four)
+        step (mesh vertices.new p arcs.new edges.new faces.new counters.new) result
+        ≡ arc_bridge_work_by searching (mesh vertices.old p arcs.old edges.old faces.old counters.old) (one_of arcs.old four)
         (other_of arcs.old four) }
 {
     let told = checks::bridge::corners_between(arcs, four);
@@ -63,8 +63,8 @@ pub fn arc_bridge(
     y: u32,
 ) -> Answer
     requires { Known arcs.old edges.old faces.old seen.now near.now around }
-    ensures { step (mesh_after vertices positions arcs edges faces counters) result
-        ≡ arc_bridge_by searching (mesh_before vertices positions arcs edges faces counters) x y }
+    ensures { step (mesh vertices.new positions.now arcs.new edges.new faces.new counters.new) result
+        ≡ arc_bridge_by searching (mesh vertices.old positions.now arcs.old edges.old faces.old counters.old) x y }
 {
     let four = checks::bridge::corners_of(arcs, x, y);
     let per = checks::bridge::corner_list(four);
@@ -97,8 +97,8 @@ fn joined(
     c: u32,
     d: u32,
 ) -> Answer
-    ensures { step (mesh_after vertices positions arcs edges faces counters) result
-        ≡ joined_by searching (mesh_before vertices positions arcs edges faces counters) x c d }
+    ensures { step (mesh vertices.new positions.now arcs.new edges.new faces.new counters.new) result
+        ≡ joined_by searching (mesh vertices.old positions.now arcs.old edges.old faces.old counters.old) x c d }
 {
     let mut seen = [false; MARKS];
     let mut links = [0u32; NEAR];
@@ -122,8 +122,8 @@ pub fn arc_extrude_work(
     x: u32,
     by: Move,
 ) -> Answer
-    ensures { step (mesh_after vertices positions arcs edges faces counters) result
-        ≡ arc_extrude_work_by searching (mesh_before vertices positions arcs edges faces counters) x by }
+    ensures { step (mesh vertices.new positions.new arcs.new edges.new faces.new counters.new) result
+        ≡ arc_extrude_work_by searching (mesh vertices.old positions.old arcs.old edges.old faces.old counters.old) x by }
 {
     let b = rows::cell6(arcs, x, 1);
     let a = rows::cell6(arcs, x, 0);

@@ -2,8 +2,7 @@
 // list of arcs near the edit.
 
 ghost use Rattle.std.specs.Prelude.{◌≡◌, List, Float};
-ghost use Rattle.rules.specs.Mesh.{list_of};
-ghost use Rattle.rules.specs.Lent.{unlent, mesh_before, mesh_after};
+ghost use Rattle.rules.specs.Mesh.{list_of, mesh};
 ghost use Rattle.rules.specs.Step.{step};
 ghost use Rattle.makers.specs.Makers.{searching, insert_face_by};
 ghost use Rattle.edits.specs.Known.{Known};
@@ -28,8 +27,8 @@ pub fn insert_face(
     mark: u32,
 ) -> Answer
     requires { Known arcs.old edges.old faces.old seen.now near.now around }
-    ensures { step (mesh_after vertices positions arcs edges faces counters) result
-        ≡ insert_face_by searching (mesh_before vertices positions arcs edges faces counters) (list_of per) mark }
+    ensures { step (mesh vertices.new positions.now arcs.new edges.new faces.new counters.new) result
+        ≡ insert_face_by searching (mesh vertices.old positions.now arcs.old edges.old faces.old counters.old) (list_of per) mark }
 {
     lists::known_few(per);
     let by = around.by;

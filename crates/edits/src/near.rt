@@ -3,8 +3,7 @@
 
 ghost use Rattle.std.specs.Prelude.{◌≡◌, List, ◌≤◌, Float};
 ghost use Rattle.rules.specs.Table.{Table};
-ghost use Rattle.rules.specs.Mesh.{arc_between};
-ghost use Rattle.rules.specs.Lent.{unlent, mesh_before, mesh_after};
+ghost use Rattle.rules.specs.Mesh.{arc_between, mesh};
 ghost use Rattle.rules.specs.Link.{get_or_insert_edge};
 ghost use Rattle.edges.specs.Free.{UsedBefore};
 ghost use Rattle.pairs.specs.Near.{Near};
@@ -87,8 +86,8 @@ pub fn edge_near(
     requires near { Near arcs.old seen.now near.now around.by }
     requires used_before { UsedBefore arcs.old around.from.arc × UsedBefore edges.old around.from.edge }
     ensures { ((p : List (List Float)) (f : Table) →
-        mesh_after vertices (unlent p) arcs edges (unlent f) counters
-        ≡ get_or_insert_edge (mesh_before vertices (unlent p) arcs edges (unlent f) counters) a b)
+        mesh vertices.new p arcs.new edges.new f counters.new
+        ≡ get_or_insert_edge (mesh vertices.old p arcs.old edges.old f counters.old) a b)
         × (result ≡ arc_between arcs.new a b) }
 {
     let by = around.by;

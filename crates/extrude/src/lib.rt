@@ -1,11 +1,12 @@
 // Extrude. Document 01's rule 10: "Remove; moved copies of the ring's vertices; top face; walls (a,b,d,c) for each ring pair, c and d the
 // copies of a and b. Marks 0; the answer is the top face."
 
+#![tactic(auto)]
+
 ghost use Rattle.std.specs.Prelude.{◌≡◌, List, ℕ, ◌<◌, length, Float};
 ghost use Rattle.rules.specs.declared.Answer.TheVariants.{Done};
 ghost use Rattle.rules.specs.Table.{Table, up_to};
 ghost use Rattle.rules.specs.Mesh.{mesh, links_of, list_of};
-ghost use Rattle.rules.specs.Lent.{unlent, mesh_before, mesh_after};
 ghost use Rattle.rules.specs.Step.{step, and_then, answering};
 ghost use Rattle.rules.specs.Extrude.{copies, wall};
 ghost use Rattle.makers.specs.Makers.{searching, insert_face_by, extrude_work_by};
@@ -77,9 +78,9 @@ fn walls_in(
     ds: Links,
 ) -> Answer
     requires { Known arcs.old edges.old faces.old seen.now near.now around }
-    ensures { step (mesh_after vertices positions arcs edges faces counters) result
+    ensures { step (mesh vertices.new positions.now arcs.new edges.new faces.new counters.new) result
         ≡ each_in (λ i a. insert_face_by searching a (wall (list_of vs) (list_of ds) i) 0) (length (list_of vs))
-        (mesh_before vertices positions arcs edges faces counters) }
+        (mesh vertices.old positions.now arcs.old edges.old faces.old counters.old) }
 {
     let n = lists::size(vs);
     let mut i: usize = 0;
@@ -116,10 +117,10 @@ fn top_and_walls(
     vs: Links,
     ds: Links,
 ) -> Answer
-    ensures { step (mesh_after vertices positions arcs edges faces counters) result
+    ensures { step (mesh vertices.new positions.now arcs.new edges.new faces.new counters.new) result
         ≡ answering Done
         (up_to (λ i s. and_then s (λ a. insert_face_by searching a (wall (list_of vs) (list_of ds) i) 0)) (length (list_of vs))
-        (insert_face_by searching (mesh_before vertices positions arcs edges faces counters) (list_of ds) 0)) }
+        (insert_face_by searching (mesh vertices.old positions.now arcs.old edges.old faces.old counters.old) (list_of ds) 0)) }
 {
     lists::known_few(vs);
     let n = lists::size(vs);
@@ -148,8 +149,8 @@ pub fn extrude_work(
     f: u32,
     by: Move,
 ) -> Answer
-    ensures { step (mesh_after vertices positions arcs edges faces counters) result
-        ≡ extrude_work_by searching (mesh_before vertices positions arcs edges faces counters) f by }
+    ensures { step (mesh vertices.new positions.new arcs.new edges.new faces.new counters.new) result
+        ≡ extrude_work_by searching (mesh vertices.old positions.old arcs.old edges.old faces.old counters.old) f by }
 {
     let vs = checks::rings::vertices_of(arcs, faces, f);
     let key = counters[2];

@@ -4,10 +4,10 @@ ghost use mathlib.Core.Path.{◌≡◌};
 ghost use mathlib.Core.List.{[]};
 ghost use Prim.Native.Nat.{◌≤◌};
 ghost use lib.ListN.{length};
-ghost use Rattle.rules.specs.Lent.{room_now, room_before, room_after};
 ghost use Rattle.file.specs.File.{contents_in, mesh_of, vertex_row, position_row, arc_row, edge_row, face_row};
 ghost use Rattle.bodies.specs.Bodies.{records_in};
 ghost use Rattle.fills.specs.Fills.{Storable, over_first, as_mesh, tables_of, RowsFor};
+ghost use Rattle.rules.specs.Mesh.{room};
 
 use crate::rows;
 use bodies::records;
@@ -94,9 +94,9 @@ pub fn fill_set(
     faces: &mut [FaceRow],
     text: &[u8],
 )
-    requires { (Storable text.now) × RowsFor (contents_in text.now) (room_now vertices positions arcs edges faces) }
-    ensures { room_after vertices positions arcs edges faces
-        ≡ tables_of (mesh_of (as_mesh (room_before vertices positions arcs edges faces) []) (contents_in text.now)) }
+    requires { (Storable text.now) × RowsFor (contents_in text.now) (room vertices.old positions.old arcs.old edges.old faces.old) }
+    ensures { room vertices.new positions.new arcs.new edges.new faces.new
+        ≡ tables_of (mesh_of (as_mesh (room vertices.old positions.old arcs.old edges.old faces.old) []) (contents_in text.now)) }
 {
     sets::zero_set(vertices, positions, arcs, edges, faces);
     fill_vertices(vertices, text);

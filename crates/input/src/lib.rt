@@ -1,6 +1,8 @@
 // What meshrun and meshdump share: standard input is read in chunks to its end, each line is run, and the answers are written to standard
 // output, a chunk's at a time. What a chunk leaves and writes is proved in the crate runs; no contract can say what is read or written.
 
+#![tactic(auto)]
+
 ghost use Rattle.std.specs.Prelude.{◌≤◌};
 
 use libc::{STDIN_FILENO, STDOUT_FILENO};

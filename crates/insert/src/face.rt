@@ -1,8 +1,7 @@
 // A face insert whose checks have passed. Document 01's rule 5.
 
 ghost use Rattle.std.specs.Prelude.{◌≡◌, List, Float};
-ghost use Rattle.rules.specs.Mesh.{list_of};
-ghost use Rattle.rules.specs.Lent.{unlent, mesh_before, mesh_after};
+ghost use Rattle.rules.specs.Mesh.{list_of, mesh};
 ghost use Rattle.edges.specs.Free.{UsedBefore};
 ghost use Rattle.pairs.specs.Pairs.{arcs_of};
 ghost use Rattle.makers.specs.Search.{arcs_on};
@@ -33,8 +32,8 @@ pub fn put_face_sought(
     requires found_value { list_of found ≡ arcs_of arcs.old (list_of per) }
     requires used_before { UsedBefore arcs.old from.arc × (UsedBefore edges.old from.edge × UsedBefore faces.old from.face) }
     ensures { (p : List (List Float)) →
-        mesh_after vertices (unlent p) arcs edges faces counters
-        ≡ put_sought (sought_of sought) (mesh_before vertices (unlent p) arcs edges faces counters) (list_of per) mark }
+        mesh vertices.new p arcs.new edges.new faces.new counters.new
+        ≡ put_sought (sought_of sought) (mesh vertices.old p arcs.old edges.old faces.old counters.old) (list_of per) mark }
 {
     let outs = sought.outs;
     let backs = sought.backs;
@@ -61,10 +60,10 @@ pub fn insert_by(
     requires found_value { list_of found ≡ arcs_of arcs.old (list_of per) }
     requires used_before { UsedBefore arcs.old from.arc × (UsedBefore edges.old from.edge × UsedBefore faces.old from.face) }
     ensures { (p : List (List Float)) →
-        mesh_after vertices (unlent p) arcs edges faces counters
-        ≡ put_face_by searching (mesh_before vertices (unlent p) arcs edges faces counters)
-        (arcs_on (mesh_before vertices (unlent p) arcs edges faces counters) (list_of per))
-        (mesh_before vertices (unlent p) arcs edges faces counters) (list_of per) mark }
+        mesh vertices.new p arcs.new edges.new faces.new counters.new
+        ≡ put_face_by searching (mesh vertices.old p arcs.old edges.old faces.old counters.old)
+        (arcs_on (mesh vertices.old p arcs.old edges.old faces.old counters.old) (list_of per))
+        (mesh vertices.old p arcs.old edges.old faces.old counters.old) (list_of per) mark }
 {
     let sought = search::search_lists(vertices, arcs, edges, per, found, search::none());
     put_face_sought(
@@ -83,10 +82,10 @@ pub fn insert_work(
     mark: u32,
 )
     ensures { (p : List (List Float)) →
-        mesh_after vertices (unlent p) arcs edges faces counters
-        ≡ put_face_by searching (mesh_before vertices (unlent p) arcs edges faces counters)
-        (arcs_on (mesh_before vertices (unlent p) arcs edges faces counters) (list_of per))
-        (mesh_before vertices (unlent p) arcs edges faces counters) (list_of per) mark }
+        mesh vertices.new p arcs.new edges.new faces.new counters.new
+        ≡ put_face_by searching (mesh vertices.old p arcs.old edges.old faces.old counters.old)
+        (arcs_on (mesh vertices.old p arcs.old edges.old faces.old counters.old) (list_of per))
+        (mesh vertices.old p arcs.old edges.old faces.old counters.old) (list_of per) mark }
 {
     lists::known_few(per);
     let mut seen = [false; MARKS];

@@ -3,8 +3,7 @@
 
 ghost use Rattle.std.specs.Prelude.{◌≡◌, false, List, ℕ, Float};
 ghost use Rattle.rules.specs.Table.{Table, has};
-ghost use Rattle.rules.specs.Mesh.{list_of};
-ghost use Rattle.rules.specs.Lent.{unlent, mesh_before, mesh_after};
+ghost use Rattle.rules.specs.Mesh.{list_of, mesh};
 ghost use Rattle.rules.specs.Insert.{edges_in};
 ghost use Rattle.edges.specs.Free.{UsedBefore};
 ghost use Rattle.pairs.specs.Pairs.{arcs_of};
@@ -51,7 +50,7 @@ fn edge_in(
     requires { UsedBefore arcs.old from.arc × UsedBefore edges.old from.edge }
     ensures { (per : List ℕ) (i : ℕ) → IsPair per i a b met → Asked arcs.old edges.old per i x from →
         ((p : List (List Float)) (f : Table) →
-        mesh_after vertices (unlent p) arcs edges (unlent f) counters ≡ edge_in per i (mesh_before vertices (unlent p) arcs edges (unlent f) counters))
+        mesh vertices.new p arcs.new edges.new f counters.new ≡ edge_in per i (mesh vertices.old p arcs.old edges.old f counters.old))
         × ((UsedBefore arcs.new result.from.arc × UsedBefore edges.new result.from.edge)
         × Tells arcs.new per i result.arc) }
 {
@@ -81,8 +80,8 @@ pub fn edges_in(
     requires xs_value { list_of xs ≡ arcs_of arcs.old (list_of per) }
     requires used_before { UsedBefore arcs.old start.arc × UsedBefore edges.old start.edge }
     ensures { ((p : List (List Float)) (f : Table) →
-        mesh_after vertices (unlent p) arcs edges (unlent f) counters
-        ≡ edges_in (list_of per) (mesh_before vertices (unlent p) arcs edges (unlent f) counters))
+        mesh vertices.new p arcs.new edges.new f counters.new
+        ≡ edges_in (list_of per) (mesh vertices.old p arcs.old edges.old f counters.old))
         × (has (list_of result) 0 ≡ false → list_of result ≡ arcs_of arcs.new (list_of per)) }
 {
     let n = lists::size(per);

@@ -4,8 +4,7 @@
 
 ghost use Rattle.std.specs.Prelude.{◌≡◌, true, List, [], ◌++◌, ◌⊎◌, ℕ, take, Float};
 ghost use Rattle.rules.specs.Table.{Table};
-ghost use Rattle.rules.specs.Mesh.{list_of};
-ghost use Rattle.rules.specs.Lent.{unlent, mesh_before};
+ghost use Rattle.rules.specs.Mesh.{list_of, mesh};
 ghost use Rattle.makers.specs.Search.{held_in, out_from, back_from, sought_for};
 ghost use Rattle.insert.specs.Sought.{sought_of, Tries};
 
@@ -158,7 +157,7 @@ pub fn search_lists(
 ) -> Sought
     ensures { (p : List (List Float)) (f : Table) (k : List ℕ) →
         sought_of result
-        ≡ sought_for (mesh_before vertices (unlent p) arcs edges (unlent f) (unlent k)) (list_of found ++ list_of others) (list_of per) }
+        ≡ sought_for (mesh vertices.now p arcs.now edges.now f k) (list_of found ++ list_of others) (list_of per) }
 {
     let n = lists::size(per);
     lists::known_few(per);

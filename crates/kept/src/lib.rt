@@ -1,1 +1,3 @@
 // Nothing to run: this crate holds theorems over the definitions in `rules`.
+
+#![tactic(auto)]

@@ -2,7 +2,6 @@
 
 ghost use Rattle.std.specs.Prelude.{◌≡◌, [], ◌+◌, ◌≤◌, length};
 ghost use Rattle.rules.specs.Mesh.{mesh};
-ghost use Rattle.rules.specs.Lent.{unlent, mesh_before};
 ghost use Rattle.script.specs.Texts.{written, wrote};
 ghost use Rattle.listing.specs.Order.{Listable};
 ghost use Rattle.listing.specs.Lines.{line_of, kind_text};
@@ -44,7 +43,7 @@ fn arc_line(
     at: usize,
 ) -> usize
     requires { at + 128 ≤ length out.old }
-    ensures result_after { written out.new result ≡ wrote out.old at (line_of (mesh_before vertices (unlent []) arcs edges faces (unlent [])) K.Arcs x) }
+    ensures result_after { written out.new result ≡ wrote out.old at (line_of (mesh vertices.now [] arcs.now edges.now faces.now []) K.Arcs x) }
     ensures short { result ≤ at + 128 }
 {
     let name = named::arc_name(vertices, arcs, x);
@@ -104,7 +103,7 @@ fn put_line(
     at: usize,
 ) -> usize
     requires { at + 128 ≤ length out.old }
-    ensures result_after { written out.new result ≡ wrote out.old at (line_of (mesh_before vertices positions arcs edges faces (unlent [])) kind x) }
+    ensures result_after { written out.new result ≡ wrote out.old at (line_of (mesh vertices.now positions.now arcs.now edges.now faces.now []) kind x) }
     ensures short { result ≤ at + 128 }
 {
     match kind {
@@ -128,7 +127,7 @@ pub fn put_records(
 ) -> usize
     requires listable { Listable vertices.now arcs.now edges.now faces.now }
     requires in_bounds { 32768 ≤ length out.old }
-    ensures result_after { written out.new result ≡ wrote out.old 0 (kind_text (mesh_before vertices positions arcs edges faces (unlent [])) kind) }
+    ensures result_after { written out.new result ≡ wrote out.old 0 (kind_text (mesh vertices.now positions.now arcs.now edges.now faces.now []) kind) }
     ensures short { result ≤ length out.new }
 {
     let order = sorted::in_order(kind, vertices, arcs, edges, faces);

@@ -1,6 +1,8 @@
 // Lists of at most 64 links or keys: read by place, made of a slice of keys, looked up; whether one holds a link, or holds one twice.
 // Document 01's "`SmallVec` a 64-place list with a length", and the tests of rule 5 on keys and perimeters.
 
+#![tactic(auto)]
+
 ghost use Rattle.std.specs.Prelude.{◌≡◌, map, ◌<◌, ◌≤◌, ◌+◌, min, length, get_or, take, drop};
 ghost use Rattle.rules.specs.Table.{has, distinct, after};
 ghost use Rattle.rules.specs.Mesh.{links_of, list_of, find_key};

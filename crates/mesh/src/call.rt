@@ -3,12 +3,12 @@
 // untouched."
 
 ghost use Rattle.std.specs.Prelude.{◌≡◌, List, length, Float, true, ℕ, ◌≤◌};
-ghost use Rattle.rules.specs.Lent.{unlent, mesh_now, mesh_before, mesh_after, room_now, room_before, room_after};
 ghost use Rattle.rules.specs.declared.Edit.TheVariants.{FaceInsert};
 ghost use Rattle.rules.specs.Sound.{sound};
 ghost use Rattle.rules.specs.Call.{work, worked, decided, called, outcome};
 ghost use Rattle.order.specs.Transaction.{left, over, SameSize};
 ghost use Rattle.mesh.specs.Near.{Fits, NearListed, Begun};
+ghost use Rattle.rules.specs.Mesh.{mesh, room};
 
 use nearby::rows;
 use nearby::rows::LISTED;
@@ -29,7 +29,7 @@ fn list_near(
 ) -> usize
     requires { (mark : ℕ) → edit ≡ FaceInsert mark → length keys.now ≤ 64 }
     ensures { (p : List (List Float)) (k : List ℕ) →
-        NearListed (mesh_before vertices (unlent p) arcs edges faces (unlent k)) edit keys.now list.new result }
+        NearListed (mesh vertices.now p arcs.now edges.now faces.now k) edit keys.now list.new result }
 {
     if !settle::is_near(settle::way_of(edit)) {
         return rows::TOO_MANY;
@@ -58,12 +58,12 @@ fn work_listed(
     edit: Edit,
     keys: &[u32],
 ) -> Answer
-    requires begun { Begun (mesh_now vertices positions arcs edges faces counters) edit keys.now }
-    requires same_size { SameSize (room_now vertices positions arcs edges faces) (room_now v p a e f) }
-    requires near_listed { NearListed (mesh_now vertices positions arcs edges faces counters) edit keys.now list.now n }
-    ensures { left result (mesh_after vertices positions arcs edges faces counters)
-        ≡ over (mesh_before vertices positions arcs edges faces counters)
-        (worked (work (mesh_before vertices positions arcs edges faces counters) edit keys.now)) }
+    requires begun { Begun (mesh vertices.old positions.old arcs.old edges.old faces.old counters.old) edit keys.now }
+    requires same_size { SameSize (room vertices.old positions.old arcs.old edges.old faces.old) (room v.old p.old a.old e.old f.old) }
+    requires near_listed { NearListed (mesh vertices.old positions.old arcs.old edges.old faces.old counters.old) edit keys.now list.now n }
+    ensures { left result (mesh vertices.new positions.new arcs.new edges.new faces.new counters.new)
+        ≡ over (mesh vertices.old positions.old arcs.old edges.old faces.old counters.old)
+        (worked (work (mesh vertices.old positions.old arcs.old edges.old faces.old counters.old) edit keys.now)) }
 {
     rows::known_rows(arcs);
     rooms::copy_in(v, p, a, e, f, vertices, positions, arcs, edges, faces);
@@ -97,11 +97,11 @@ fn work_in_room(
     edit: Edit,
     keys: &[u32],
 ) -> Answer
-    requires begun { Begun (mesh_now vertices positions arcs edges faces counters) edit keys.now }
-    requires same_size { SameSize (room_now vertices positions arcs edges faces) (room_now v p a e f) }
-    ensures { left result (mesh_after vertices positions arcs edges faces counters)
-        ≡ over (mesh_before vertices positions arcs edges faces counters)
-        (worked (work (mesh_before vertices positions arcs edges faces counters) edit keys.now)) }
+    requires begun { Begun (mesh vertices.old positions.old arcs.old edges.old faces.old counters.old) edit keys.now }
+    requires same_size { SameSize (room vertices.old positions.old arcs.old edges.old faces.old) (room v.old p.old a.old e.old f.old) }
+    ensures { left result (mesh vertices.new positions.new arcs.new edges.new faces.new counters.new)
+        ≡ over (mesh vertices.old positions.old arcs.old edges.old faces.old counters.old)
+        (worked (work (mesh vertices.old positions.old arcs.old edges.old faces.old counters.old) edit keys.now)) }
 {
     let mut list = [0u32; LISTED];
     let n = list_near(&mut list, vertices, arcs, edges, faces, edit, keys);
@@ -131,11 +131,11 @@ fn perform(
     edit: Edit,
     keys: &[u32],
 ) -> Answer
-    requires counters_value { sound (mesh_now vertices positions arcs edges faces counters) ≡ true }
-    requires same_size { SameSize (room_now vertices positions arcs edges faces) (room_now v p a e f) }
-    ensures { left result (mesh_after vertices positions arcs edges faces counters)
-        ≡ over (mesh_before vertices positions arcs edges faces counters)
-        (decided (mesh_before vertices positions arcs edges faces counters) edit keys.now) }
+    requires counters_value { sound (mesh vertices.old positions.old arcs.old edges.old faces.old counters.old) ≡ true }
+    requires same_size { SameSize (room vertices.old positions.old arcs.old edges.old faces.old) (room v.old p.old a.old e.old f.old) }
+    ensures { left result (mesh vertices.new positions.new arcs.new edges.new faces.new counters.new)
+        ≡ over (mesh vertices.old positions.old arcs.old edges.old faces.old counters.old)
+        (decided (mesh vertices.old positions.old arcs.old edges.old faces.old counters.old) edit keys.now) }
 {
     known_three(*counters);
     let first = decide::decide(
@@ -170,11 +170,11 @@ fn perform_in_parts(
     edit: Edit,
     keys: &[u32],
 ) -> Answer
-    requires counters_value { sound (mesh_now vertices positions arcs edges faces counters) ≡ true }
-    requires fits { Fits (room_now vertices positions arcs edges faces) (room_now v p a e f) }
-    ensures { left result (mesh_after vertices positions arcs edges faces counters)
-        ≡ over (mesh_before vertices positions arcs edges faces counters)
-        (decided (mesh_before vertices positions arcs edges faces counters) edit keys.now) }
+    requires counters_value { sound (mesh vertices.old positions.old arcs.old edges.old faces.old counters.old) ≡ true }
+    requires fits { Fits (room vertices.old positions.old arcs.old edges.old faces.old) (room v.old p.old a.old e.old f.old) }
+    ensures { left result (mesh vertices.new positions.new arcs.new edges.new faces.new counters.new)
+        ≡ over (mesh vertices.old positions.old arcs.old edges.old faces.old counters.old)
+        (decided (mesh vertices.old positions.old arcs.old edges.old faces.old counters.old) edit keys.now) }
 {
     let nv = vertices.len();
     let np = positions.len();
@@ -219,8 +219,8 @@ pub fn change(
     call: Call,
     keys: &[u32],
 ) -> Answer
-    ensures { outcome result (mesh_after vertices positions arcs edges faces counters) (room_after v1 p1 a1 e1 f1) (room_after v2 p2 a2 e2 f2)
-        ≡ called (mesh_before vertices positions arcs edges faces counters) (room_before v1 p1 a1 e1 f1) (room_before v2 p2 a2 e2 f2) call
+    ensures { outcome result (mesh vertices.new positions.new arcs.new edges.new faces.new counters.new) (room v1.new p1.new a1.new e1.new f1.new) (room v2.new p2.new a2.new e2.new f2.new)
+        ≡ called (mesh vertices.old positions.old arcs.old edges.old faces.old counters.old) (room v1.old p1.old a1.old e1.old f1.old) (room v2.old p2.old a2.old e2.old f2.old) call
         keys.now }
 {
     if !decide::is_ready(

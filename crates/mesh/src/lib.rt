@@ -3,4 +3,6 @@
 // is written straight into the mesh.
 // Document 01's "Order", "What must change shape" and "How a call is held to its word".
 
+#![tactic(auto)]
+
 pub mod call;

@@ -1,6 +1,8 @@
 // The script program with all records: it answers a script as meshrun does, then writes every record, sorted, and last `end` with the
 // counts. By it the port is compared with the Rust record by record.
 
+#![tactic(auto)]
+
 use libc::STDOUT_FILENO;
 use listing::{Kind, listed};
 use runs::{ANSWERS, Arcs, Edges, Faces, Positions, Vertices};

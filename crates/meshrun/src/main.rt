@@ -1,6 +1,8 @@
 // Document 01's script program: it reads standard input, one line a call, and writes an answer for each, and last `end` with the counts of
 // vertices, edges, faces. Its tables have 64 vertices, 128 edges and 64 faces.
 
+#![tactic(auto)]
+
 fn main() {
     let mut vertices = [[0u32; 2]; 64];
     let mut positions = [[0.0f64; 3]; 64];

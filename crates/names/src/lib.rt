@@ -5,6 +5,8 @@
 // is the only one with that name. Where a name finds another row first, or too many slots are taken, a name that finds another row stands twice,
 // however the slots were filled; where that does not tell, names are compared one by one.
 
+#![tactic(auto)]
+
 ghost use Rattle.std.specs.Prelude.{◌≡◌, true, false, not, ◌||◌, ◌+◌, ◌≤◌, ◌<◌, min, length, get_or, eqb, ltb};
 ghost use Rattle.rules.specs.Table.{all_below, or_else};
 ghost use Rattle.names.specs.Names.{alone, differ, pair_name};

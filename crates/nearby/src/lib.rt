@@ -2,6 +2,8 @@
 // kept), so by these it is told whether its result is sound, and these alone are copied over the mesh when it is accepted. Document 01: "work in lent room,
 // copied over only when accepted", and answer 8.
 
+#![tactic(auto)]
+
 pub mod rings;
 pub mod rows;
 pub mod vertices;

@@ -3,9 +3,9 @@
 
 ghost use Rattle.std.specs.Prelude.{◌≡◌, List, ℕ, ◌≤◌, length, Float};
 ghost use Rattle.rules.specs.declared.Edit.TheVariants.{FaceInsert};
-ghost use Rattle.rules.specs.Lent.{unlent, mesh_before, room_before};
 ghost use Rattle.rules.specs.Call.{ready, room_for, need};
 ghost use Rattle.order.specs.Transaction.{before_work};
+ghost use Rattle.rules.specs.Mesh.{mesh, room};
 
 use rules::{Answer, ArcRow, EdgeRow, Edit, FaceRow, PositionRow, Refusal, VertexRow};
 use tables::{answers, sets};
@@ -29,7 +29,7 @@ pub fn is_ready(
     e2: &[EdgeRow],
     f2: &[FaceRow],
 ) -> bool
-    ensures { result ≡ ready (mesh_before vertices positions arcs edges faces counters) (room_before v1 p1 a1 e1 f1) (room_before v2 p2 a2 e2 f2) }
+    ensures { result ≡ ready (mesh vertices.now positions.now arcs.now edges.now faces.now counters.now) (room v1.now p1.now a1.now e1.now f1.now) (room v2.now p2.now a2.now e2.now f2.now) }
 {
     if !sets::room_enough(vertices, positions, arcs, edges, faces, v1, p1, a1, e1, f1) {
         return false;
@@ -52,8 +52,8 @@ fn has_room(
     keys: &[u32],
 ) -> bool
     ensures { ((mark : ℕ) → edit ≡ FaceInsert mark → length keys.now ≤ 64) → (ps : List (List Float)) →
-        result ≡ room_for (mesh_before vertices (unlent ps) arcs edges faces counters)
-        (need (mesh_before vertices (unlent ps) arcs edges faces counters) edit keys.now) }
+        result ≡ room_for (mesh vertices.now ps arcs.now edges.now faces.now counters.now)
+        (need (mesh vertices.now ps arcs.now edges.now faces.now counters.now) edit keys.now) }
 {
     let most = checks::call::most_of(arcs, faces, edit, keys);
     if checks::call::room_for(vertices, edges, faces, counters, most) {
@@ -74,7 +74,7 @@ pub fn decide(
     edit: Edit,
     keys: &[u32],
 ) -> Answer
-    ensures { result ≡ before_work (mesh_before vertices positions arcs edges faces counters) edit keys.now }
+    ensures { result ≡ before_work (mesh vertices.now positions.now arcs.now edges.now faces.now counters.now) edit keys.now }
 {
     if !checks::call::given(edit, keys) {
         return Answer::Refused(Refusal::Argument);

@@ -2,10 +2,10 @@
 // "`Transact` becomes work in lent room, copied over only when accepted", and "Working room ends all zero, accepted or not".
 
 ghost use Rattle.std.specs.Prelude.{◌≡◌};
-ghost use Rattle.rules.specs.Lent.{room_now, room_before, room_after};
 ghost use Rattle.rules.specs.Call.{zeroed};
 ghost use Rattle.nearby.specs.Rows.{DifferNear};
 ghost use Rattle.order.specs.Transaction.{SameSize};
+ghost use Rattle.rules.specs.Mesh.{room};
 
 use nearby::rows;
 use nearby::rows::LISTED;
@@ -25,8 +25,8 @@ pub fn copy_in(
     edges: &[EdgeRow],
     faces: &[FaceRow],
 )
-    requires { SameSize (room_now vertices positions arcs edges faces) (room_now v p a e f) }
-    ensures { room_after v p a e f ≡ room_before vertices positions arcs edges faces }
+    requires { SameSize (room vertices.now positions.now arcs.now edges.now faces.now) (room v.old p.old a.old e.old f.old) }
+    ensures { room v.new p.new a.new e.new f.new ≡ room vertices.now positions.now arcs.now edges.now faces.now }
 {
     sets::copy_set(v, p, a, e, f, vertices, positions, arcs, edges, faces);
 }
@@ -46,9 +46,9 @@ pub fn copy_over(
     list: &[u32; LISTED],
     n: usize,
 )
-    requires same_size { SameSize (room_now vertices positions arcs edges faces) (room_now v p a e f) }
+    requires same_size { SameSize (room vertices.old positions.old arcs.old edges.old faces.old) (room v.now p.now a.now e.now f.now) }
     requires differ_near { DifferNear a.now arcs.old list.now n e.now edges.old }
-    ensures { room_after vertices positions arcs edges faces ≡ room_before v p a e f }
+    ensures { room vertices.new positions.new arcs.new edges.new faces.new ≡ room v.now p.now a.now e.now f.now }
 {
     rows::copy_over(arcs, a, list, n, e, edges);
     sets::copy2(vertices, v);
@@ -70,7 +70,7 @@ pub fn clear(
     e2: &mut [EdgeRow],
     f2: &mut [FaceRow],
 )
-    ensures { (room_after v1 p1 a1 e1 f1 ≡ zeroed (room_before v1 p1 a1 e1 f1)) × (room_after v2 p2 a2 e2 f2 ≡ zeroed (room_before v2 p2 a2 e2 f2)) }
+    ensures { (room v1.new p1.new a1.new e1.new f1.new ≡ zeroed (room v1.old p1.old a1.old e1.old f1.old)) × (room v2.new p2.new a2.new e2.new f2.new ≡ zeroed (room v2.old p2.old a2.old e2.old f2.old)) }
 {
     sets::zero_set(v1, p1, a1, e1, f1);
     sets::zero_set(v2, p2, a2, e2, f2);

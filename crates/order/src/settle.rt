@@ -2,12 +2,12 @@
 // mid-edit; 8".
 
 ghost use Rattle.std.specs.Prelude.{◌≡◌, true, ◌≤◌, length, take};
-ghost use Rattle.rules.specs.Lent.{mesh_now, mesh_before};
 ghost use Rattle.rules.specs.Step.{step, accepted};
 ghost use Rattle.rules.specs.Sound.{sound};
 ghost use Rattle.rules.specs.Call.{worked};
 ghost use Rattle.nearby.specs.Rings.{rings_hold};
 ghost use Rattle.order.specs.Transaction.{way_of, is_keeps, is_near};
+ghost use Rattle.rules.specs.Mesh.{mesh};
 
 use nearby::rings;
 use nearby::rows::LISTED;
@@ -75,8 +75,8 @@ fn sound_after(
     from: u32,
 ) -> bool
     requires { n ≤ 2048 → (length faces.now ≤ 4096)
-        × (rings_hold arcs.now faces.now (take n list.now) from ≡ sound (mesh_now vertices positions arcs edges faces counters)) }
-    ensures { result ≡ sound (mesh_before vertices positions arcs edges faces counters) }
+        × (rings_hold arcs.now faces.now (take n list.now) from ≡ sound (mesh vertices.now positions.now arcs.now edges.now faces.now counters.now)) }
+    ensures { result ≡ sound (mesh vertices.now positions.now arcs.now edges.now faces.now counters.now) }
 {
     if n > LISTED {
         return sound::queries::is_sound(vertices, positions, arcs, edges, faces, counters);
@@ -98,8 +98,8 @@ pub fn judged(
     told: Answer,
 ) -> Answer
     requires { accepted told ≡ true → n ≤ 2048 → (length faces.now ≤ 4096)
-        × (rings_hold arcs.now faces.now (take n list.now) from ≡ sound (mesh_now vertices positions arcs edges faces counters)) }
-    ensures { result ≡ (worked (step (mesh_before vertices positions arcs edges faces counters) told)).answer }
+        × (rings_hold arcs.now faces.now (take n list.now) from ≡ sound (mesh vertices.now positions.now arcs.now edges.now faces.now counters.now)) }
+    ensures { result ≡ (worked (step (mesh vertices.now positions.now arcs.now edges.now faces.now counters.now) told)).answer }
 {
     if !answers::accepted(told) {
         return told;

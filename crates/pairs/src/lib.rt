@@ -2,6 +2,8 @@
 // It carries the lookups of document 01's rule 5: "perimeter pairs in order: an existing arc ..". Each of them alone is `rows::find_arc`.
 // And whether two pairs join the same vertices: an edge that is made for one pair is then another pair's too.
 
+#![tactic(auto)]
+
 pub mod marked; // marked.rt: blocks of rows without a mark
 pub mod near; // near.rt: arcs near an edit, listed in one pass for all its perimeters
 

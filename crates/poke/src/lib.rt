@@ -1,9 +1,10 @@
 // Poke. Document 01's rule 7: "Remove, new vertex c, then (a, b, c) for each ring pair. Marks are copied; the answer is c."
 
+#![tactic(auto)]
+
 ghost use Rattle.std.specs.Prelude.{◌≡◌, List, [], ◌∷◌, ℕ, ◌<◌, length, get_or, Float};
 ghost use Rattle.rules.specs.Table.{after};
-ghost use Rattle.rules.specs.Mesh.{links_of, list_of};
-ghost use Rattle.rules.specs.Lent.{unlent, mesh_before, mesh_after};
+ghost use Rattle.rules.specs.Mesh.{links_of, list_of, mesh};
 ghost use Rattle.rules.specs.Step.{step};
 ghost use Rattle.makers.specs.Makers.{searching, insert_face_by, poke_work_by};
 ghost use Rattle.edits.specs.Each.{each_in};
@@ -45,9 +46,9 @@ fn parts_in(
     mark: u32,
 ) -> Answer
     requires { Known arcs.old edges.old faces.old seen.now near.now around }
-    ensures { step (mesh_after vertices positions arcs edges faces counters) result
+    ensures { step (mesh vertices.new positions.now arcs.new edges.new faces.new counters.new) result
         ≡ each_in (λ i a. insert_face_by searching a (get_or (list_of vs) i 0 ∷ get_or (list_of vs) (after (length (list_of vs)) i) 0 ∷ c ∷ []) mark)
-        (length (list_of vs)) (mesh_before vertices positions arcs edges faces counters) }
+        (length (list_of vs)) (mesh vertices.old positions.now arcs.old edges.old faces.old counters.old) }
 {
     let n = lists::size(vs);
     let mut i: usize = 0;
@@ -85,9 +86,9 @@ fn parts_near(
     c: u32,
     mark: u32,
 ) -> Answer
-    ensures { step (mesh_after vertices positions arcs edges faces counters) result
+    ensures { step (mesh vertices.new positions.now arcs.new edges.new faces.new counters.new) result
         ≡ each_in (λ i a. insert_face_by searching a (get_or (list_of vs) i 0 ∷ get_or (list_of vs) (after (length (list_of vs)) i) 0 ∷ c ∷ []) mark)
-        (length (list_of vs)) (mesh_before vertices positions arcs edges faces counters) }
+        (length (list_of vs)) (mesh vertices.old positions.now arcs.old edges.old faces.old counters.old) }
 {
     lists::known_few(vs);
     let made = lists::size(vs);
@@ -111,8 +112,8 @@ pub fn poke_work(
     f: u32,
     position: Position,
 ) -> Answer
-    ensures { step (mesh_after vertices positions arcs edges faces counters) result
-        ≡ poke_work_by searching (mesh_before vertices positions arcs edges faces counters) f position }
+    ensures { step (mesh vertices.new positions.new arcs.new edges.new faces.new counters.new) result
+        ≡ poke_work_by searching (mesh vertices.old positions.old arcs.old edges.old faces.old counters.old) f position }
 {
     let vs = checks::rings::vertices_of(arcs, faces, f);
     let mark = rows::cell3(faces, f, 2);

@@ -5,12 +5,12 @@ ghost use mathlib.Core.Path.{◌≡◌};
 ghost use mathlib.Core.Bool.{true};
 ghost use mathlib.Core.List.{List};
 ghost use Prim.Native.Nat.{ℕ};
-ghost use Rattle.rules.specs.Lent.{unlent, mesh_now, mesh_before, mesh_after, room_now, room_before, room_after};
 ghost use Rattle.rules.specs.Sound.{within_limits};
 ghost use Rattle.rules.specs.Call.{zeroed};
 ghost use Rattle.file.specs.File.{sizes_serve, read_file};
 ghost use Rattle.verdicts.specs.Verdicts.{taken, taken_of};
 ghost use Rattle.reads.specs.Reads.{Fits, file_read};
+ghost use Rattle.rules.specs.Mesh.{mesh, room};
 
 use rules::{ArcRow, EdgeRow, FaceRow, PositionRow, VertexRow};
 use tables::sets;
@@ -35,7 +35,7 @@ fn sizes_serve(
     f2: &[FaceRow],
 ) -> bool
     ensures { (k : List ℕ) →
-        result ≡ sizes_serve (mesh_before vertices positions arcs edges faces (unlent k)) (room_before v1 p1 a1 e1 f1) (room_before v2 p2 a2 e2 f2) }
+        result ≡ sizes_serve (mesh vertices.now positions.now arcs.now edges.now faces.now k) (room v1.now p1.now a1.now e1.now f1.now) (room v2.now p2.now a2.now e2.now f2.now) }
 {
     if !sets::within_limits(vertices, positions, arcs, edges, faces) {
         return false;
@@ -61,10 +61,10 @@ fn read_in_parts(
     f: &mut [FaceRow],
     text: &[u8],
 ) -> u32
-    requires counters_value { within_limits (mesh_now vertices positions arcs edges faces counters) ≡ true }
-    requires fits { Fits (room_now vertices positions arcs edges faces) (room_now v p a e f) }
-    ensures { taken result (mesh_after vertices positions arcs edges faces counters)
-        ≡ taken_of (mesh_before vertices positions arcs edges faces counters) text.now }
+    requires counters_value { within_limits (mesh vertices.old positions.old arcs.old edges.old faces.old counters.old) ≡ true }
+    requires fits { Fits (room vertices.old positions.old arcs.old edges.old faces.old) (room v.old p.old a.old e.old f.old) }
+    ensures { taken result (mesh vertices.new positions.new arcs.new edges.new faces.new counters.new)
+        ≡ taken_of (mesh vertices.old positions.old arcs.old edges.old faces.old counters.old) text.now }
 {
     let nv = vertices.len();
     let np = positions.len();
@@ -100,7 +100,7 @@ fn clear(
     e2: &mut [EdgeRow],
     f2: &mut [FaceRow],
 )
-    ensures { (room_after v1 p1 a1 e1 f1 ≡ zeroed (room_before v1 p1 a1 e1 f1)) × (room_after v2 p2 a2 e2 f2 ≡ zeroed (room_before v2 p2 a2 e2 f2)) }
+    ensures { (room v1.new p1.new a1.new e1.new f1.new ≡ zeroed (room v1.old p1.old a1.old e1.old f1.old)) × (room v2.new p2.new a2.new e2.new f2.new ≡ zeroed (room v2.old p2.old a2.old e2.old f2.old)) }
 {
     sets::zero_set(v1, p1, a1, e1, f1);
     sets::zero_set(v2, p2, a2, e2, f2);
@@ -126,8 +126,8 @@ pub fn read_mesh(
     f2: &mut [FaceRow],
     text: &[u8],
 ) -> u32
-    ensures { file_read result (mesh_after vertices positions arcs edges faces counters) (room_after v1 p1 a1 e1 f1) (room_after v2 p2 a2 e2 f2)
-        ≡ read_file (mesh_before vertices positions arcs edges faces counters) (room_before v1 p1 a1 e1 f1) (room_before v2 p2 a2 e2 f2) text.now }
+    ensures { file_read result (mesh vertices.new positions.new arcs.new edges.new faces.new counters.new) (room v1.new p1.new a1.new e1.new f1.new) (room v2.new p2.new a2.new e2.new f2.new)
+        ≡ read_file (mesh vertices.old positions.old arcs.old edges.old faces.old counters.old) (room v1.old p1.old a1.old e1.old f1.old) (room v2.old p2.old a2.old e2.old f2.old) text.now }
 {
     if !sizes_serve(
         vertices, positions, arcs, edges, faces, v1, p1, a1, e1, f1, v2, p2, a2, e2, f2,

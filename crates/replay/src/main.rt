@@ -4,6 +4,8 @@
 // A line of the list, by its first byte: > a line of the script; = what is printed at its end, a kind of records (V, A, E, F), the counters (C) or
 // the counts; < a line that must be printed for what stands above it; # the script's name; . its end. compare/store.py writes the list.
 
+#![tactic(auto)]
+
 mod stand; // stand.rt: where the list stands
 mod texts; // texts.rt: texts held against each other
 

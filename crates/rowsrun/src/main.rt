@@ -1,6 +1,8 @@
 // Prints the rows of edges and faces after each of a few lines: faces removed and others put in, a split, a poke. It shows document 01's
 // "A new record takes the lowest unused row; rows freed by a removed face are used again", which no record tells.
 
+#![tactic(auto)]
+
 mod print;
 
 use runs::{Arcs, Edges, Faces, Positions, Vertices};

@@ -1,6 +1,5 @@
 pub mod Table
 pub mod Mesh
-pub mod Lent
 pub mod Point
 pub mod Link
 pub mod Step

@@ -1,6 +1,8 @@
 // The types that callers and definitions share: a position, a vertex, a move, the edits, and the answers.
 // What they mean stands in specs/, document 01 written as definitions.
 
+#![tactic(auto)]
+
 // The rows of the five tables, and the places of a ring or a list of keys.
 pub type VertexRow = [u32; 2];
 

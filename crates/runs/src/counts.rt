@@ -3,9 +3,9 @@
 
 ghost use Rattle.std.specs.Prelude.{◌≡◌, ◌≤◌, length};
 ghost use Rattle.rules.specs.Table.{count, used};
-ghost use Rattle.rules.specs.Lent.{mesh_before};
 ghost use Rattle.rules.specs.Script.{checked_end};
 ghost use Rattle.script.specs.Texts.{written, wrote};
+ghost use Rattle.rules.specs.Mesh.{mesh};
 
 use rules::{ArcRow, EdgeRow, FaceRow, PositionRow, VertexRow};
 use script::texts;
@@ -41,7 +41,7 @@ pub fn put_counts(
 ) -> usize
     requires vertices_len_bound { (length vertices.now ≤ 8192) × (length edges.now ≤ 8192) }
     requires faces_len_bound { (length faces.now ≤ 8192) × (64 ≤ length out.old) }
-    ensures result_after { written out.new result ≡ wrote out.old 0 (checked_end (mesh_before vertices positions arcs edges faces counters)) }
+    ensures result_after { written out.new result ≡ wrote out.old 0 (checked_end (mesh vertices.now positions.now arcs.now edges.now faces.now counters.now)) }
     ensures short { result ≤ 64 }
 {
     let answer = queries::check_mesh(vertices, positions, arcs, edges, faces, counters);

@@ -1,10 +1,10 @@
 // A chunk of input: each line that ends in it is run, and what is left is held for the next chunk.
 
 ghost use Rattle.std.specs.Prelude.{◌≡◌, ◌+◌, ◌*◌, ◌≤◌, ◌<◌, length, take, cond, eqb};
-ghost use Rattle.rules.specs.Lent.{mesh_before, mesh_after, room_before, room_after};
 ghost use Rattle.script.specs.Texts.{written};
 ghost use Rattle.runs.specs.Gather.{lacking};
 ghost use Rattle.runs.specs.Feed.{handed, handed_at, unwritten, fed, line_fed};
+ghost use Rattle.rules.specs.Mesh.{mesh, room};
 
 use crate::{Arcs, Edges, Faces, Fed, HELD, Positions, Vertices, gather, run};
 
@@ -35,10 +35,10 @@ fn feed_line(
 ) -> Fed
     requires held_bound { held ≤ 513 }
     requires at_in_bounds { at + 64 ≤ length out.old }
-    ensures held_after { handed result.next (written out.new result.at) (mesh_after vertices positions arcs edges faces counters) (room_after v1 p1 a1 e1 f1)
-        (room_after v2 p2 a2 e2 f2) (written line.new result.held)
+    ensures held_after { handed result.next (written out.new result.at) (mesh vertices.new positions.new arcs.new edges.new faces.new counters.new) (room v1.new p1.new a1.new e1.new f1.new)
+        (room v2.new p2.new a2.new e2.new f2.new) (written line.new result.held)
         ≡ line_fed chunk.now from out.old at
-        (unwritten (mesh_before vertices positions arcs edges faces counters) (room_before v1 p1 a1 e1 f1) (room_before v2 p2 a2 e2 f2)
+        (unwritten (mesh vertices.old positions.old arcs.old edges.old faces.old counters.old) (room v1.old p1.old a1.old e1.old f1.old) (room v2.old p2.old a2.old e2.old f2.old)
         (written line.old held)) }
     ensures few { result.held ≤ 513 }
     ensures short { result.at ≤ at + 64 }
@@ -103,11 +103,11 @@ pub fn feed(
 ) -> Fed
     requires held_bound { held ≤ 513 }
     requires chunk_in_bounds { 64 * length chunk.now ≤ length out.old }
-    ensures held_after { handed result.next (written out.new result.at) (mesh_after vertices positions arcs edges faces counters) (room_after v1 p1 a1 e1 f1)
-        (room_after v2 p2 a2 e2 f2) (written line.new result.held)
+    ensures held_after { handed result.next (written out.new result.at) (mesh vertices.new positions.new arcs.new edges.new faces.new counters.new) (room v1.new p1.new a1.new e1.new f1.new)
+        (room v2.new p2.new a2.new e2.new f2.new) (written line.new result.held)
         ≡ handed_at (length chunk.now) out.old 0
         (fed
-        (unwritten (mesh_before vertices positions arcs edges faces counters) (room_before v1 p1 a1 e1 f1) (room_before v2 p2 a2 e2 f2)
+        (unwritten (mesh vertices.old positions.old arcs.old edges.old faces.old counters.old) (room v1.old p1.old a1.old e1.old f1.old) (room v2.old p2.old a2.old e2.old f2.old)
         (written line.old held))
         chunk.now) }
     ensures few { result.held ≤ 513 }

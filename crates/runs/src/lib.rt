@@ -2,6 +2,8 @@
 // for it. It carries document 01's "The script program": "one line a call, at most 512 bytes before the newline, which the last may lack
 // (a longer one is answered 2 and skipped), with tables of 64 vertices, 128 edges and 64 faces".
 
+#![tactic(auto)]
+
 use rules::{ArcRow, EdgeRow, FaceRow, PositionRow, VertexRow};
 
 pub mod run; // run.rt: one line, one call, one answer

@@ -3,9 +3,9 @@
 // the number".
 
 ghost use Rattle.std.specs.Prelude.{◌≡◌, ◌+◌, ◌≤◌, length};
-ghost use Rattle.rules.specs.Lent.{mesh_before, mesh_after, room_before, room_after};
 ghost use Rattle.script.specs.Texts.{written};
 ghost use Rattle.runs.specs.Run.{ran_line, printed, printed_at};
+ghost use Rattle.rules.specs.Mesh.{mesh, room};
 
 use crate::{Arcs, Edges, Faces, Positions, Vertices};
 use mesh::call;
@@ -36,10 +36,10 @@ pub fn run_line(
     at: usize,
 ) -> usize
     requires { at + 64 ≤ length out.old }
-    ensures f2_after { printed (written out.new result) (mesh_after vertices positions arcs edges faces counters) (room_after v1 p1 a1 e1 f1)
-        (room_after v2 p2 a2 e2 f2)
+    ensures f2_after { printed (written out.new result) (mesh vertices.new positions.new arcs.new edges.new faces.new counters.new) (room v1.new p1.new a1.new e1.new f1.new)
+        (room v2.new p2.new a2.new e2.new f2.new)
         ≡ printed_at out.old at
-        (ran_line (mesh_before vertices positions arcs edges faces counters) (room_before v1 p1 a1 e1 f1) (room_before v2 p2 a2 e2 f2)
+        (ran_line (mesh vertices.old positions.old arcs.old edges.old faces.old counters.old) (room v1.old p1.old a1.old e1.old f1.old) (room v2.old p2.old a2.old e2.old f2.old)
         line.now) }
     ensures short { result ≤ at + 64 }
 {

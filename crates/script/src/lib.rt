@@ -2,6 +2,8 @@
 // It carries document 01's "The script program": how a line is read, and what is printed for it.
 // Each public function says one equation with a definition of the crate rules (specs/Script.antt there).
 
+#![tactic(auto)]
+
 use rules::{Edit, Position};
 
 pub mod fields; // fields.rt: the fields of a line, one after the other

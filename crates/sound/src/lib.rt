@@ -2,6 +2,8 @@
 // Every function reads any tables of any sizes, changes none and needs no room but a list of names, 32 KiB, and as much for its slots, on
 // the stack; each answer is an equation with a definition of rules.
 
+#![tactic(auto)]
+
 pub mod keys; // keys.rt: keys differ and lie below their counter
 pub mod edges; // edges.rt: each edge and its two arcs
 pub mod links; // links.rt: leading, next, previous and face of a record

@@ -5,7 +5,6 @@
 ghost use Rattle.std.specs.Prelude.{◌≡◌, true, cond, List, map, ℕ, ◌+◌, ◌*◌, ◌≤◌, length, take, Float};
 ghost use Rattle.rules.specs.Table.{Table, count, used};
 ghost use Rattle.rules.specs.Mesh.{mesh};
-ghost use Rattle.rules.specs.Lent.{unlent, mesh_before};
 ghost use Rattle.sound.specs.Tests.{vertex_test, arc_test, edge_test};
 ghost use Rattle.sound.specs.Names.{edge_name, keys_rise};
 ghost use Rattle.sound.specs.Parts.{vertices_sound, positions_sound, arcs_sound, edges_sound, held_if, used_if};
@@ -152,7 +151,7 @@ pub fn edges_named(
 ) -> Named
     requires { (length edges.now ≤ 8192) × (length edges.now ≤ length names.old) }
     ensures { ((p : List (List Float)) (f : Table) →
-        result.there ≡ used_if (edges_sound (mesh_before vertices (unlent p) arcs edges (unlent f) counters)) edges.now)
+        result.there ≡ used_if (edges_sound (mesh vertices.now p arcs.now edges.now f counters.now)) edges.now)
         × ((result.there ≡ 0 → ⊥) → take (length edges.now) names.new ≡ map (edge_name arcs.now) edges.now)
         × (result.rising ≡ true → keys_rise edges.now ≡ true) }
 {

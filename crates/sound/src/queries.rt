@@ -4,8 +4,7 @@
 
 ghost use Rattle.std.specs.Prelude.{◌≡◌, not, ℕ, ◌≤◌, length};
 ghost use Rattle.rules.specs.Table.{every};
-ghost use Rattle.rules.specs.Mesh.{Mesh, face_arc};
-ghost use Rattle.rules.specs.Lent.{mesh_before};
+ghost use Rattle.rules.specs.Mesh.{Mesh, face_arc, mesh};
 ghost use Rattle.rules.specs.Link as Link;
 ghost use Rattle.rules.specs.Sound.{sound};
 ghost use Rattle.rules.specs.Call.{check_mesh, face_arity, leadless};
@@ -27,7 +26,7 @@ pub fn is_sound(
     faces: &[FaceRow],
     counters: &[u32; 3],
 ) -> bool
-    ensures { result ≡ sound (mesh_before vertices positions arcs edges faces counters) }
+    ensures { result ≡ sound (mesh vertices.now positions.now arcs.now edges.now faces.now counters.now) }
 {
     if !sets::within_limits(vertices, positions, arcs, edges, faces) {
         return false;
@@ -97,7 +96,7 @@ pub fn check_mesh(
     faces: &[FaceRow],
     counters: &[u32; 3],
 ) -> Answer
-    ensures { result ≡ check_mesh (mesh_before vertices positions arcs edges faces counters) }
+    ensures { result ≡ check_mesh (mesh vertices.now positions.now arcs.now edges.now faces.now counters.now) }
 {
     if !is_sound(vertices, positions, arcs, edges, faces, counters) {
         return Answer::Refused(Refusal::Tables);
@@ -138,7 +137,7 @@ pub fn face_arity(
     counters: &[u32; 3],
     face: u32,
 ) -> Answer
-    ensures { result ≡ face_arity (mesh_before vertices positions arcs edges faces counters) face }
+    ensures { result ≡ face_arity (mesh vertices.now positions.now arcs.now edges.now faces.now counters.now) face }
 {
     if !is_sound(vertices, positions, arcs, edges, faces, counters) {
         return Answer::Refused(Refusal::Tables);

@@ -2,6 +2,8 @@
 // writes it), and prints for each line its name and the number of check_mesh's answer. A line that starts with = is a mesh, any other a
 // damage to the mesh above it.
 
+#![tactic(auto)]
+
 mod text; // text.rt: the lines of the script
 mod mesh; // mesh.rt: the tables that a line stores into
 

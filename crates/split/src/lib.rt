@@ -2,10 +2,11 @@
 // (s,d). Both marks are 0." The lists of both halves are searched after the removal, before the left half is in;
 // so is one list made of the arcs near them, for the checks and the edges of both.
 
+#![tactic(auto)]
+
 ghost use Rattle.std.specs.Prelude.{◌≡◌, List, ℕ, Float};
 ghost use Rattle.rules.specs.Table.{Table};
 ghost use Rattle.rules.specs.Mesh.{mesh, list_of};
-ghost use Rattle.rules.specs.Lent.{unlent, mesh_before, mesh_after};
 ghost use Rattle.rules.specs.Step.{step};
 ghost use Rattle.rules.specs.Insert.{insert_checks};
 ghost use Rattle.pairs.specs.Near.{Near};
@@ -37,8 +38,8 @@ fn halves_in(
 )
     requires { Known arcs.old edges.old faces.old seen.now near.now around }
     ensures { (p : List (List Float)) →
-        mesh_after vertices (unlent p) arcs edges faces counters
-        ≡ both_in (mesh_before vertices (unlent p) arcs edges faces counters) (list_of left) (list_of right) }
+        mesh vertices.new p arcs.new edges.new faces.new counters.new
+        ≡ both_in (mesh vertices.old p arcs.old edges.old faces.old counters.old) (list_of left) (list_of right) }
 {
     lists::known_few(left);
     lists::known_few(right);
@@ -87,8 +88,8 @@ pub fn split_work(
     s: u32,
     d: u32,
 ) -> Answer
-    ensures { step (mesh_after vertices positions arcs edges faces counters) result
-        ≡ split_work_by searching (mesh_before vertices positions arcs edges faces counters) f s d }
+    ensures { step (mesh vertices.new positions.now arcs.new edges.new faces.new counters.new) result
+        ≡ split_work_by searching (mesh vertices.old positions.now arcs.old edges.old faces.old counters.old) f s d }
 {
     let left = checks::split::half(arcs, faces, f, s, d);
     let right = checks::split::half(arcs, faces, f, d, s);

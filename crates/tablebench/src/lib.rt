@@ -1,9 +1,10 @@
 // Leaves of tables for a C program to time (bench/tables.c): a search of all arcs, a copy of a set, a set made zero. Each is the leaf
 // itself under a C name, with the leaf's own contract.
 
+#![tactic(auto)]
+
 ghost use Rattle.std.specs.Prelude.{◌≡◌};
-ghost use Rattle.rules.specs.Mesh.{arc_between};
-ghost use Rattle.rules.specs.Lent.{room_before, room_after};
+ghost use Rattle.rules.specs.Mesh.{arc_between, room};
 ghost use Rattle.rules.specs.Call.{zeroed};
 ghost use Rattle.tables.specs.Sets.{set_over};
 
@@ -31,9 +32,9 @@ pub extern "C" fn tablebench_copy_set(
     from_edges: &[EdgeRow],
     from_faces: &[FaceRow],
 )
-    ensures { room_after vertices positions arcs edges faces
-        ≡ set_over (room_before from_vertices from_positions from_arcs from_edges from_faces)
-        (room_before vertices positions arcs edges faces) }
+    ensures { room vertices.new positions.new arcs.new edges.new faces.new
+        ≡ set_over (room from_vertices.now from_positions.now from_arcs.now from_edges.now from_faces.now)
+        (room vertices.old positions.old arcs.old edges.old faces.old) }
 {
     tables::sets::copy_set(
         vertices,
@@ -58,7 +59,7 @@ pub extern "C" fn tablebench_zero_set(
     edges: &mut [EdgeRow],
     faces: &mut [FaceRow],
 )
-    ensures { room_after vertices positions arcs edges faces ≡ zeroed (room_before vertices positions arcs edges faces) }
+    ensures { room vertices.new positions.new arcs.new edges.new faces.new ≡ zeroed (room vertices.old positions.old arcs.old edges.old faces.old) }
 {
     tables::sets::zero_set(vertices, positions, arcs, edges, faces);
 }

@@ -2,6 +2,8 @@
 // Each function is total: it has no requires, whatever the tables hold, however long they are, and whatever is asked of them;
 // and each says one equation with a definition of the crate rules, document 01 written out.
 
+#![tactic(auto)]
+
 pub mod rows; // rows.rt: one cell or row by its link, and scans
 pub mod points; // points.rt: coordinates, positions and moves
 pub mod vertices; // vertices.rt: a vertex out of its row and into it

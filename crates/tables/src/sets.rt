@@ -3,11 +3,11 @@
 // lent", and "it is too small if one of them has fewer rows than the mesh table of its kind".
 
 ghost use Rattle.std.specs.Prelude.{◌≡◌, ℕ, min, ◌<◌, List, [], ◌∷◌, length, replicate, set};
-ghost use Rattle.rules.specs.Lent.{unlent, mesh_before, room_before, room_after};
 ghost use Rattle.rules.specs.Point.{zero_float};
 ghost use Rattle.rules.specs.Sound.{within_limits};
 ghost use Rattle.rules.specs.Call.{room_enough, zeroed};
 ghost use Rattle.tables.specs.Sets.{over, set_over};
+ghost use Rattle.rules.specs.Mesh.{mesh, room};
 
 use crate::{rows, zeros};
 use rules::{ArcRow, EdgeRow, FaceRow, PositionRow, VertexRow};
@@ -142,9 +142,9 @@ pub fn copy_set(
     from_edges: &[EdgeRow],
     from_faces: &[FaceRow],
 )
-    ensures { room_after vertices positions arcs edges faces
-        ≡ set_over (room_before from_vertices from_positions from_arcs from_edges from_faces)
-        (room_before vertices positions arcs edges faces) }
+    ensures { room vertices.new positions.new arcs.new edges.new faces.new
+        ≡ set_over (room from_vertices.now from_positions.now from_arcs.now from_edges.now from_faces.now)
+        (room vertices.old positions.old arcs.old edges.old faces.old) }
 {
     copy2(vertices, from_vertices);
     copy_positions(positions, from_positions);
@@ -161,7 +161,7 @@ pub fn zero_set(
     edges: &mut [EdgeRow],
     faces: &mut [FaceRow],
 )
-    ensures { room_after vertices positions arcs edges faces ≡ zeroed (room_before vertices positions arcs edges faces) }
+    ensures { room vertices.new positions.new arcs.new edges.new faces.new ≡ zeroed (room vertices.old positions.old arcs.old edges.old faces.old) }
 {
     zero2(vertices);
     zero_positions(positions);
@@ -178,7 +178,7 @@ pub fn within_limits(
     edges: &[EdgeRow],
     faces: &[FaceRow],
 ) -> bool
-    ensures { (k : List ℕ) → result ≡ within_limits (mesh_before vertices positions arcs edges faces (unlent k)) }
+    ensures { (k : List ℕ) → result ≡ within_limits (mesh vertices.now positions.now arcs.now edges.now faces.now k) }
 {
     if vertices.len() > VERTEX_LIMIT {
         return false;
@@ -209,8 +209,8 @@ pub fn room_enough(
     room_faces: &[FaceRow],
 ) -> bool
     ensures { (k : List ℕ) →
-        result ≡ room_enough (mesh_before vertices positions arcs edges faces (unlent k))
-        (room_before room_vertices room_positions room_arcs room_edges room_faces) }
+        result ≡ room_enough (mesh vertices.now positions.now arcs.now edges.now faces.now k)
+        (room room_vertices.now room_positions.now room_arcs.now room_edges.now room_faces.now) }
 {
     if vertices.len() > room_vertices.len() {
         return false;

@@ -1,6 +1,8 @@
 // Runs the leaves of tables, walks, lists and edges, and the search of insert, on small tables, and prints what each found, one line for each.
 // A link is a row plus one, and 0 is none. The file stdout beside src has the whole text.
 
+#![tactic(auto)]
+
 mod cells;
 mod points;
 mod records;

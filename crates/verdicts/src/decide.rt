@@ -5,10 +5,10 @@ ghost use mathlib.Core.Path.{◌≡◌};
 ghost use mathlib.Core.List.{List};
 ghost use Prim.Native.Nat.{ℕ};
 ghost use lib.Ieee.{Float};
-ghost use Rattle.rules.specs.Lent.{unlent, mesh_before};
 ghost use Rattle.file.specs.File.{contents_in, tables_hold};
 ghost use Rattle.bodies.specs.Bodies.{Laid};
 ghost use Rattle.verdicts.specs.Verdicts.{first_number};
+ghost use Rattle.rules.specs.Mesh.{mesh};
 
 use bodies::{cells, layout, records};
 use fills::holding;
@@ -32,7 +32,7 @@ fn tables_hold(
 ) -> bool
     requires { Laid text.now }
     ensures { (p : List (List Float)) (k : List ℕ) →
-        result ≡ tables_hold (mesh_before vertices (unlent p) arcs edges faces (unlent k)) (contents_in text.now) }
+        result ≡ tables_hold (mesh vertices.now p arcs.now edges.now faces.now k) (contents_in text.now) }
 {
     if records::count(text, VERTICES) > vertices.len() {
         return false;
@@ -56,7 +56,7 @@ pub fn decide(
     counters: &[u32; 3],
     text: &[u8],
 ) -> u32
-    ensures { result ≡ first_number (mesh_before vertices positions arcs edges faces counters) text.now }
+    ensures { result ≡ first_number (mesh vertices.now positions.now arcs.now edges.now faces.now counters.now) text.now }
 {
     cells::known_bytes(text);
     if !layout::length_fits(text) {

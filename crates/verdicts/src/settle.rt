@@ -4,11 +4,11 @@
 ghost use mathlib.Core.Path.{◌≡◌};
 ghost use mathlib.Core.Bool.{true};
 ghost use lib.Dec.{T};
-ghost use Rattle.rules.specs.Lent.{mesh_now, mesh_before, mesh_after, room_now};
 ghost use Rattle.rules.specs.Sound.{within_limits};
 ghost use Rattle.file.specs.File.{contents_in, tables_hold};
 ghost use Rattle.fills.specs.Fills.{Storable};
 ghost use Rattle.verdicts.specs.Verdicts.{SameSize, taken, taken_of, judged};
+ghost use Rattle.rules.specs.Mesh.{mesh, room};
 
 use crate::decide;
 use bodies::cells::known_bytes;
@@ -31,11 +31,11 @@ fn settle(
     f: &mut [FaceRow],
     text: &[u8],
 ) -> u32
-    requires storable { (Storable text.now) × T (tables_hold (mesh_now vertices positions arcs edges faces counters) (contents_in text.now)) }
-    requires counters_value { within_limits (mesh_now vertices positions arcs edges faces counters) ≡ true }
-    requires same_size { SameSize (room_now vertices positions arcs edges faces) (room_now v p a e f) }
-    ensures { taken result (mesh_after vertices positions arcs edges faces counters)
-        ≡ judged (mesh_before vertices positions arcs edges faces counters) text.now }
+    requires storable { (Storable text.now) × T (tables_hold (mesh vertices.old positions.old arcs.old edges.old faces.old counters.old) (contents_in text.now)) }
+    requires counters_value { within_limits (mesh vertices.old positions.old arcs.old edges.old faces.old counters.old) ≡ true }
+    requires same_size { SameSize (room vertices.old positions.old arcs.old edges.old faces.old) (room v.old p.old a.old e.old f.old) }
+    ensures { taken result (mesh vertices.new positions.new arcs.new edges.new faces.new counters.new)
+        ≡ judged (mesh vertices.old positions.old arcs.old edges.old faces.old counters.old) text.now }
 {
     fill::fill_set(v, p, a, e, f, text);
     let k = cells::counters(text);
@@ -62,10 +62,10 @@ pub fn read_in_room(
     f: &mut [FaceRow],
     text: &[u8],
 ) -> u32
-    requires counters_value { within_limits (mesh_now vertices positions arcs edges faces counters) ≡ true }
-    requires same_size { SameSize (room_now vertices positions arcs edges faces) (room_now v p a e f) }
-    ensures { taken result (mesh_after vertices positions arcs edges faces counters)
-        ≡ taken_of (mesh_before vertices positions arcs edges faces counters) text.now }
+    requires counters_value { within_limits (mesh vertices.old positions.old arcs.old edges.old faces.old counters.old) ≡ true }
+    requires same_size { SameSize (room vertices.old positions.old arcs.old edges.old faces.old) (room v.old p.old a.old e.old f.old) }
+    ensures { taken result (mesh vertices.new positions.new arcs.new edges.new faces.new counters.new)
+        ≡ taken_of (mesh vertices.old positions.old arcs.old edges.old faces.old counters.old) text.now }
 {
     known_bytes(text);
     let first = decide::decide(vertices, positions, arcs, edges, faces, counters, text);

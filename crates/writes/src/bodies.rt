@@ -4,10 +4,10 @@ ghost use mathlib.Core.Path.{◌≡◌};
 ghost use mathlib.Core.List.{[]};
 ghost use Prim.Native.Nat.{◌+◌, ◌≤◌};
 ghost use lib.ListN.{length};
-ghost use Rattle.rules.specs.Lent.{unlent, mesh_before};
 ghost use Rattle.file.specs.File.{body_length};
 ghost use Rattle.orders.specs.Order as O;
 ghost use Rattle.writes.specs.Writing.{put_text, links_text, kind_text, widths_of};
+ghost use Rattle.rules.specs.Mesh.{mesh};
 
 use crate::records;
 use orders::{Kind, sorted};
@@ -30,7 +30,7 @@ fn put_links(
 ) -> usize
     requires { at + body_length (widths_of kind) (length links.now) ≤ length out.old }
     ensures out_after { out.new
-        ≡ put_text out.old at (links_text (mesh_before vertices positions arcs edges faces (unlent [])) kind links.now) }
+        ≡ put_text out.old at (links_text (mesh vertices.now positions.now arcs.now edges.now faces.now []) kind links.now) }
     ensures next { result ≡ at + body_length (widths_of kind) (length links.now) }
 {
     let n = links.len();
@@ -60,7 +60,7 @@ pub fn put_body(
     requires kind_len_bound { length (O.table_of (O.tables vertices.now arcs.now edges.now faces.now) kind) ≤ 16384 }
     requires kind_in_bounds { at + body_length (widths_of kind) (length (O.links_of (O.tables vertices.now arcs.now edges.now faces.now) kind))
         ≤ length out.old }
-    ensures out_after { out.new ≡ put_text out.old at (kind_text (mesh_before vertices positions arcs edges faces (unlent [])) kind) }
+    ensures out_after { out.new ≡ put_text out.old at (kind_text (mesh vertices.now positions.now arcs.now edges.now faces.now []) kind) }
     ensures next { result
         ≡ at
         + body_length (widths_of kind)

@@ -4,10 +4,10 @@ ghost use mathlib.Core.Path.{◌≡◌};
 ghost use mathlib.Core.List.{[]};
 ghost use Prim.Native.Nat.{◌+◌, ◌≤◌};
 ghost use lib.ListN.{length};
-ghost use Rattle.rules.specs.Lent.{unlent, mesh_before, mesh_now};
 ghost use Rattle.file.specs.File.{write_file, check_refuses};
 ghost use Rattle.orders.specs.Order as O;
 ghost use Rattle.writes.specs.Writing as W;
+ghost use Rattle.rules.specs.Mesh.{mesh};
 
 use crate::{Counts, Wrote, bodies, words};
 use orders::{Kind, sorted};
@@ -96,7 +96,7 @@ fn put_bodies(
 )
     requires small { W.Small (O.tables vertices.now arcs.now edges.now faces.now) }
     requires faces_in_bounds { W.length_of (W.counts_of (O.tables vertices.now arcs.now edges.now faces.now)) ≤ length out.old }
-    ensures { out.new ≡ W.put_text out.old 44 (W.bodies_of (mesh_before vertices positions arcs edges faces (unlent []))) }
+    ensures { out.new ≡ W.put_text out.old 44 (W.bodies_of (mesh vertices.now positions.now arcs.now edges.now faces.now [])) }
 {
     let arcs_at = bodies::put_body(
         Kind::Vertices,
@@ -153,7 +153,7 @@ fn write_sound(
     out: &mut [u8],
 ) -> Wrote
     requires { W.Small (O.tables vertices.now arcs.now edges.now faces.now) }
-    ensures { W.file_written result out.new ≡ W.when_sound (mesh_before vertices positions arcs edges faces counters) out.old }
+    ensures { W.file_written result out.new ≡ W.when_sound (mesh vertices.now positions.now arcs.now edges.now faces.now counters.now) out.old }
 {
     let counts = count_all(vertices, arcs, edges, faces);
     let length = length_of(counts);
@@ -180,7 +180,7 @@ fn refuses(
     faces: &[FaceRow],
     counters: &[u32; 3],
 ) -> bool
-    ensures { result ≡ check_refuses (mesh_before vertices positions arcs edges faces counters) }
+    ensures { result ≡ check_refuses (mesh vertices.now positions.now arcs.now edges.now faces.now counters.now) }
 {
     let reply = answers::told(queries::check_mesh(
         vertices, positions, arcs, edges, faces, counters,
@@ -198,7 +198,7 @@ pub fn write_mesh(
     counters: &[u32; 3],
     out: &mut [u8],
 ) -> Wrote
-    ensures { W.file_written result out.new ≡ write_file (mesh_before vertices positions arcs edges faces counters) out.old }
+    ensures { W.file_written result out.new ≡ write_file (mesh vertices.now positions.now arcs.now edges.now faces.now counters.now) out.old }
 {
     if refuses(vertices, positions, arcs, edges, faces, counters) {
         return Wrote {

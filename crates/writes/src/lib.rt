@@ -1,6 +1,8 @@
 // The mesh file's writer (document 02, L3): a table of contents, the key counters, then four bodies back to back in key order.
 // Numbers are written low byte first, by remainders and divisions.
 
+#![tactic(auto)]
+
 pub mod words; // words.rt: numbers of four bytes
 pub mod cells; // cells.rt: what a record's cells hold
 pub mod records; // records.rt: one record

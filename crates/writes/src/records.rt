@@ -7,7 +7,6 @@ ghost use mathlib.Core.List.{[]};
 ghost use Prim.Native.Nat.{◌+◌, ◌≤◌};
 ghost use lib.ListN.{length};
 ghost use Rattle.rules.specs.Mesh.{mesh};
-ghost use Rattle.rules.specs.Lent.{unlent, mesh_before};
 ghost use Rattle.file.specs.File.{total};
 ghost use Rattle.orders.specs.declared.Kind.TheVariants as K;
 ghost use Rattle.writes.specs.Writing.{put_text, record_text, widths_of};
@@ -68,7 +67,7 @@ fn put_arc(
     at: usize,
 )
     requires { at + 24 ≤ length out.old }
-    ensures { out.new ≡ put_text out.old at (record_text (mesh_before vertices (unlent []) arcs edges faces (unlent [])) K.Arcs x) }
+    ensures { out.new ≡ put_text out.old at (record_text (mesh vertices.now [] arcs.now edges.now faces.now []) K.Arcs x) }
 {
     let source = cells::source_key(vertices, arcs, x);
     let destination = cells::destination_key(vertices, arcs, x);
@@ -134,7 +133,7 @@ pub fn put_record(
     at: usize,
 )
     requires { at + total (widths_of kind) ≤ length out.old }
-    ensures { out.new ≡ put_text out.old at (record_text (mesh_before vertices positions arcs edges faces (unlent [])) kind x) }
+    ensures { out.new ≡ put_text out.old at (record_text (mesh vertices.now positions.now arcs.now edges.now faces.now []) kind x) }
 {
     match kind {
         Kind::Vertices => put_vertex(vertices, positions, arcs, x, out, at),
