@@ -1,0 +1,5 @@
+-- `tables::links::connect` meets its contract. The second store is made on what the first left. Assumes nothing.
+use Rattle.tables.proofs.links.connect.Goals as goal
+
+pub returns : goal.returns
+returns c = rw (← c.put6.ensures) c.put6-2.ensures

@@ -1,0 +1,15 @@
+-- `tables::rows::cell3` meets its contract. A law of Cells for each way out: through none, past the table, past the row, and there. Assumes nothing.
+use Rattle.tables.proofs.Cells.{cell-none, cell-here, cell-past, cell-narrow}
+use Rattle.tables.proofs.rows.cell3.Goals as goal
+
+pub returns-then-l-eq0 : goal.returns-then-l-eq0
+returns-then-l-eq0 c = cell-none _ _ _ c.if-l-eq0.true
+
+pub returns-then-i-t : goal.returns-then-i-t
+returns-then-i-t c = cell-past _ _ _ c.if-l-eq0.false c.if-i-t.true
+
+pub returns-then-c-ge3 : goal.returns-then-c-ge3
+returns-then-c-ge3 c = cell-narrow _ _ _ c.if-l-eq0.false _ c.known3.ensures c.if-c-ge3.true
+
+pub returns : goal.returns
+returns c = cell-here _ _ _ c.if-l-eq0.false

@@ -1,0 +1,13 @@
+-- `tables::rows::count_used6` meets its contract. The invariant: n of the rows before i count, and the rows from i on hold the rest. The measure is what is left of the table. Assumes nothing.
+use Prim.Native.Nat.{◌-◌, ◌≤◌}
+use mathlib.Core.List.{[]}
+use lib.ListN.{length}
+use Rattle.rules.specs.Table.{used}
+use Rattle.tables.proofs.Scans.{Counted}
+use Rattle.tables.proofs.rows.count_used6.Given as goal
+
+abbrev pub invariant-loop-i : goal.invariant-loop-i
+invariant-loop-i l = (l.i ≤ length l.t) × ((l.n ≤ l.i) × Counted used l.t [] l.n l.i)
+
+abbrev pub decreases-loop-i : goal.decreases-loop-i
+decreases-loop-i l = length l.t - l.i

@@ -1,0 +1,7 @@
+-- `tables::sets::copy_set` meets its contract. Five copies, one for each table. Assumes nothing.
+use Rattle.tables.specs.Sets.{set_over}
+use Rattle.tables.proofs.sets.copy_set.Goals as goal
+
+pub returns : goal.returns
+unfolding set_over
+returns c = cc

@@ -1,0 +1,18 @@
+-- `tables::zeros::zero_row3` meets its contract: the tests of its cells, one by one. Assumes nothing.
+use mathlib.Core.Bool.{Bool, ◌&&◌}
+use lib.ListN.{get_or}
+use lib.Dec.{eqb}
+use Rattle.tables.proofs.Runs.{both}
+use Rattle.tables.proofs.ZeroRows.{no_cell, cell-more, row_zero}
+use Rattle.tables.proofs.zeros.zero_row3.Goals as goal
+
+pub returns : goal.returns
+returns c =
+    λ e.
+    let row = c.args.row in
+    let t0 : Bool = eqb (get_or row 0 0) 0 in
+    let t1 : Bool = eqb (get_or row 1 0) 0 in
+    let t2 : Bool = eqb (get_or row 2 0) 0 in
+    let b2 = both (t0 && t1) t2 e in
+    let b1 = both t0 t1 b2.0 in
+    row_zero row 3 c.known3.ensures (cell-more row 2 (cell-more row 1 (cell-more row 0 (no_cell row) b1.0) b1.1) b2.1)
