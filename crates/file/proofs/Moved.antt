@@ -154,9 +154,9 @@ module _ (m : Mesh) (S : SoundFacts m) (H : Stored m) where
   unfolding body contents_of records
   arc-row i l = cells_at arc_cells (arc_record m) arc_links i l
 
-  edge_row : (i : ℕ) → i < length edge_links → get_or (body held 2) i [] ≡ edge_cells (edge_record m (get_or edge_links i 0))
+  edge-row : (i : ℕ) → i < length edge_links → get_or (body held 2) i [] ≡ edge_cells (edge_record m (get_or edge_links i 0))
   unfolding body contents_of records
-  edge_row i l = cells_at edge_cells (edge_record m) edge_links i l
+  edge-row i l = cells_at edge_cells (edge_record m) edge_links i l
 
   face-row : (i : ℕ) → i < length face_links → get_or (body held 3) i [] ≡ face_cells (face_record m (get_or face_links i 0))
   unfolding body contents_of records
@@ -176,7 +176,7 @@ module _ (m : Mesh) (S : SoundFacts m) (H : Stored m) where
   unfolding edge_to by_key
   edge-place i l =
       key-place m.edges (body held 2) edge_links (listed (key_before m.edges) m.edges) S.edge-keys-differ edge_count
-      (λ j q. ap (λ (r : List ℕ). get_or r 0 0) (edge_row j q) ∙ first (get_or edge_links j 0)) i l
+      (λ j q. ap (λ (r : List ℕ). get_or r 0 0) (edge-row j q) ∙ first (get_or edge_links j 0)) i l
     where
       first : (e : ℕ) → get_or (edge_cells (edge_record m e)) 0 0 ≡ key_at m.edges e
       first e = unfold edge_cells in unfold edge_record in refl
@@ -319,7 +319,7 @@ module _ (m : Mesh) (S : SoundFacts m) (H : Stored m) where
     arc-kin = record { in_list = listed (arc_before m) m.arcs; made = R.arcs; count = arc-count; row = arc-row; place = arc-place; pos = arc-pos held }
 
     edge-kin : Kin m.edges n.edges (body held 2) (edge_row held) (λ e. edge_cells (edge_record m e)) edge_links edge_to
-    edge-kin = record { in_list = listed (key_before m.edges) m.edges; made = R.edges; count = edge_count; row = edge_row; place = edge-place; pos = edge-pos held }
+    edge-kin = record { in_list = listed (key_before m.edges) m.edges; made = R.edges; count = edge_count; row = edge-row; place = edge-place; pos = edge-pos held }
 
     face-kin : Kin m.faces n.faces (body held 3) (face_row held) (λ f. face_cells (face_record m f)) face_links face_to
     face-kin = record { in_list = listed (key_before m.faces) m.faces; made = R.faces; count = face-count; row = face-row; place = face-place; pos = face-pos held }
@@ -386,9 +386,9 @@ module _ (m : Mesh) (S : SoundFacts m) (H : Stored m) where
     unfolding arc_row arc_cells arc_record
     face-to x u = face-carried (face m x) (face n (arc_to x)) (kin-cell arc-kin x u 4) (λ ne. S.face-exists x u ne)
 
-    edge_to : (x : ℕ) → IsArc m x → edge n (arc_to x) ≡ edge_to (edge m x)
+    edge-to : (x : ℕ) → IsArc m x → edge n (arc_to x) ≡ edge_to (edge m x)
     unfolding arc_row arc_cells arc_record edge_to
-    edge_to x u =
+    edge-to x u =
         let some : edge m x ≡ 0 → ⊥ = λ e. omega (arith, (in_table m.edges (edge m x) (S.edge-exists x u)).0) in
         kin-cell arc-kin x u 5 ∙ ap (λ (z : ℕ). by_key held 2 z) (some-cell m.edges (edge m x) some)
 
@@ -444,7 +444,7 @@ module _ (m : Mesh) (S : SoundFacts m) (H : Stored m) where
           nexts = next-to;
           previouses = previous-to;
           arc-faces = face-to;
-          arc-edges = edge_to;
+          arc-edges = edge-to;
           edge-arcs = edge-arc-to;
           edge-others = edge-other-to;
           face-arcs = face-arc-to;

@@ -70,9 +70,9 @@ module _ (m : Mesh) where
       test-and (distinct (keys_of m.vertices)) (distinct (keys_of m.edges) && distinct (keys_of m.faces)) (table-keys-differ m.vertices)
       (test-and (distinct (keys_of m.edges)) (distinct (keys_of m.faces)) (table-keys-differ m.edges) (table-keys-differ m.faces))
 
-  pub keys_below : T (keys_below m) ↔ (KeysBelow m.vertices (next_key m vertex_kind) × (KeysBelow m.edges (next_key m edge_kind) × KeysBelow m.faces (next_key m face_kind)))
+  pub keys-below : T (keys_below m) ↔ (KeysBelow m.vertices (next_key m vertex_kind) × (KeysBelow m.edges (next_key m edge_kind) × KeysBelow m.faces (next_key m face_kind)))
   unfolding keys_below
-  keys_below =
+  keys-below =
       test-and (every (λ k. ltb k (next_key m vertex_kind)) (keys_of m.vertices)) _ (table-keys-below m.vertices (next_key m vertex_kind))
       (test-and (every (λ k. ltb k (next_key m edge_kind)) (keys_of m.edges)) (every (λ k. ltb k (next_key m face_kind)) (keys_of m.faces)) (table-keys-below m.edges (next_key m edge_kind)) (table-keys-below m.faces (next_key m face_kind)))
 
@@ -278,7 +278,7 @@ pub facts : (m : Mesh) → T (sound m) → SoundFacts m
 facts m t =
     let s = parts m t in
     let d = (keys-differ m).0 s.keys-differ in
-    let b = (keys_below m).0 s.keys_below in
+    let b = (keys-below m).0 s.keys_below in
     let z = (rest-zero m).0 s.rest-zero in
     record {
       sizes = sizes m s.within-limits;
@@ -312,7 +312,7 @@ sound-from m s =
     whole m (record {
       within-limits = sizes-within m s.sizes;
       keys-differ = (keys-differ m).1 (s.vertex-keys-differ, (s.edge-keys-differ, s.face-keys-differ));
-      keys_below = (keys_below m).1 (s.vertex-keys-below, (s.edge-keys-below, s.face-keys-below));
+      keys_below = (keys-below m).1 (s.vertex-keys-below, (s.edge-keys-below, s.face-keys-below));
       both-arcs = (both-arcs m).1 s.both-arcs;
       ends-differ = (ends-differ m).1 s.ends-differ;
       ends-exist = (ends-exist m).1 s.ends-exist;

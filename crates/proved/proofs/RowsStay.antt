@@ -226,7 +226,7 @@ called-rows m one two c keys = go (ready m one two)
 pub calls-rows : (m : Mesh) (calls : List Made) → SameRows m (after_calls m calls)
 unfolding after_calls after_call
 calls-rows m [] = same
-calls-rows m (c ∷ cs) = onto (calls-rows _ cs) (called-rows m _ _ _ _)
+calls-rows m (c ∷ cs) = onto (calls-rows (after_call m c) cs) (called-rows m _ _ _ _)
 
 -- ---- from an empty mesh
 
