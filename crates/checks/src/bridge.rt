@@ -48,7 +48,7 @@ pub fn corner_list(four: [u32; 4]) -> Links
 // ---- two arcs to be bridged, by their vertices
 
 // The arcs, four vertices as a list, and the arcs of their pairs.
-#[derive(Drop)]
+#[derive(Clone, Copy)]
 pub struct Between {
     pub x: u32,
     pub y: u32,

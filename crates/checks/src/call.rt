@@ -139,7 +139,7 @@ pub fn moves_finite(
 // ---- 7: the need against free rows and keys
 
 // How many vertices, edges and faces an edit needs, and how many face keys.
-#[derive(Drop)]
+#[derive(Clone, Copy)]
 pub struct Need {
     pub vertices: usize,
     pub edges: usize,

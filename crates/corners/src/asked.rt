@@ -1,6 +1,6 @@
 // The lines that a corner asks, each with the answer that document 01 gives.
 
-#[derive(Drop)]
+#[derive(Clone, Copy)]
 pub enum Way {
     Same,
     Up,
@@ -9,7 +9,7 @@ pub enum Way {
 
 // A line: a letter, a number, and then so many numbers, all the same, or each one more or one less than the one before. Its answer: `ok`
 // or `no`, and a number.
-#[derive(Drop)]
+#[derive(Clone, Copy)]
 pub struct Asked {
     pub letter: u8,
     pub first: u32,

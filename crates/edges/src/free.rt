@@ -13,7 +13,7 @@ use rules::{ArcRow, EdgeRow, VertexRow};
 const ROW_LIMIT: usize = 16384;
 
 // Links of rows before which every row is used, 0 where nothing is known.
-#[derive(Drop)]
+#[derive(Clone, Copy)]
 pub struct Lowest {
     pub arc: u32,
     pub edge: u32,

@@ -17,7 +17,7 @@ use rules::{ArcRow, EdgeRow, FaceRow, Links, RING, VertexRow};
 use tables::rows;
 
 // The list of arcs, and where unused rows may be looked for.
-#[derive(Drop)]
+#[derive(Clone, Copy)]
 pub struct Around {
     pub by: Nearby,
     pub from: Lowest,

@@ -9,7 +9,7 @@ use libc::{STDIN_FILENO, STDOUT_FILENO};
 use runs::{ANSWERS, Arcs, CHUNK, Edges, Faces, HELD, Positions, Vertices, counts, feed};
 
 // How many bytes of an unended line are held, whether the input ended, and whether all answers were written.
-#[derive(Drop)]
+#[derive(Clone, Copy)]
 struct Turned {
     held: usize,
     ended: bool,

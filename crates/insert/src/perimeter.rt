@@ -15,7 +15,7 @@ use rules::{ArcRow, EdgeRow, Links, RING, VertexRow};
 use tables::{links, rows};
 
 // The edge of a pair is in: from where the next one's rows may be looked for, and the pair's arc, 0 where it is not known.
-#[derive(Drop)]
+#[derive(Clone, Copy)]
 struct Edged {
     from: Lowest,
     arc: u32,

@@ -12,7 +12,7 @@ use rules::{ArcRow, EdgeRow, Links, RING, VertexRow};
 use tables::rows;
 
 // What was found for each vertex of a perimeter: the first free arc of its list, and the first free opposite, 0 where there is none.
-#[derive(Drop)]
+#[derive(Clone, Copy)]
 pub struct Sought {
     pub outs: Links,
     pub backs: Links,
@@ -62,14 +62,14 @@ fn saved_at(k: usize, saved: u32, x: u32) -> u32
 }
 
 // How far a search has come: whether it is done, and the arc that it found.
-#[derive(Drop)]
+#[derive(Clone, Copy)]
 struct Progress {
     done: bool,
     arc: u32,
 }
 
 // What both searches of a list found.
-#[derive(Drop)]
+#[derive(Clone, Copy)]
 struct Free {
     out: u32,
     back: u32,

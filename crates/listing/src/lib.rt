@@ -12,7 +12,7 @@ pub mod listed; // listed.rt: the lines of all records of a kind
 pub const ROWS: usize = 256;
 
 // The four kinds of records.
-#[derive(Drop)]
+#[derive(Clone, Copy)]
 pub enum Kind {
     Vertices,
     Arcs,
@@ -21,7 +21,7 @@ pub enum Kind {
 }
 
 // Links in order: so many of them, and the places from count on are 0.
-#[derive(Drop)]
+#[derive(Clone, Copy)]
 pub struct Order {
     pub links: [u32; ROWS],
     pub count: usize,

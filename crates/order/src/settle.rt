@@ -16,7 +16,7 @@ use tables::answers;
 
 // How it is known that what an edit leaves is sound: kept by proof, told by the rings near it, or told by the full check. A new edit may begin with the full
 // check, which asks nothing of it.
-#[derive(Drop)]
+#[derive(Clone, Copy)]
 pub enum Way {
     Keeps,
     Near,

@@ -8,7 +8,7 @@ pub mod kinds; // kinds.rt: the four kinds of records, and which of two comes be
 pub mod sorted; // sorted.rt: the used links of a kind in order
 
 // The four kinds of records.
-#[derive(Drop)]
+#[derive(Clone, Copy)]
 pub enum Kind {
     Vertices,
     Arcs,

@@ -25,7 +25,7 @@ pub const NEAR: usize = 2176;
 
 // How many links are listed, the last unused row among them, the lowest unused row, how many links are listed up to the last used row, and how many
 // from the start on are chained; all 0 where the list tells nothing.
-#[derive(Drop)]
+#[derive(Clone, Copy)]
 pub struct Nearby {
     pub len: usize,
     pub spare: u32,
@@ -35,7 +35,7 @@ pub struct Nearby {
 }
 
 // What Nearby holds, during the pass, and how many unused rows are left to list.
-#[derive(Drop)]
+#[derive(Clone, Copy)]
 struct Met {
     len: usize,
     spare: u32,

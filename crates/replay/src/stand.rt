@@ -3,7 +3,7 @@
 // The place reached in a chunk of it; the first byte of the line that is being read, or 0, and how many more of its bytes are held; from where to
 // where the text stands that the next lines must have, how much of the case's script is kept, and whether the case has differed; how many
 // cases have ended, and how many of them differed.
-#[derive(Drop)]
+#[derive(Clone, Copy)]
 pub struct Stand {
     pub next: usize,
     pub kind: u8,

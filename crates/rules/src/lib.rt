@@ -17,14 +17,14 @@ pub type FaceRow = [u32; 3];
 pub const RING: usize = 64;
 
 // A list of at most 64 links or keys: the places from len on are 0.
-#[derive(Drop)]
+#[derive(Clone, Copy)]
 pub struct Links {
     pub at: [u32; RING],
     pub len: usize,
 }
 
 // A position is one record of three coordinates.
-#[derive(Drop)]
+#[derive(Clone, Copy)]
 pub struct Position {
     pub x: f64,
     pub y: f64,
@@ -32,7 +32,7 @@ pub struct Position {
 }
 
 // A vertex as it is read out of its row: its key, its position, and the link of its leading arc, 0 for none.
-#[derive(Drop)]
+#[derive(Clone, Copy)]
 pub struct Vertex {
     pub key: u32,
     pub position: Position,
@@ -40,7 +40,7 @@ pub struct Vertex {
 }
 
 // A move is a choice of two: a shift by three offsets, or a scale about a centre by a factor.
-#[derive(Drop)]
+#[derive(Clone, Copy)]
 pub enum Move {
     Shift(f64, f64, f64),
     Scale {
@@ -52,7 +52,7 @@ pub enum Move {
 }
 
 // Why a call is refused: document 01's answers 1 to 8 and document 02's 13, by their names.
-#[derive(Drop)]
+#[derive(Clone, Copy)]
 pub enum Refusal {
     Tables,
     Argument,
@@ -66,7 +66,7 @@ pub enum Refusal {
 }
 
 // What a call answers: a key, an arc by its two vertex keys, a mark, an arity, done with nothing to tell, or a refusal.
-#[derive(Drop)]
+#[derive(Clone, Copy)]
 pub enum Answer {
     Key(u32),
     Arc(u32, u32),
@@ -78,7 +78,7 @@ pub enum Answer {
 
 // An answer as numbers: document 01's number, and each value, 0 where the answer has none.
 #[repr(C)]
-#[derive(Drop)]
+#[derive(Clone, Copy)]
 pub struct Reply {
     pub number: u32,
     pub key: u32,
@@ -89,7 +89,7 @@ pub struct Reply {
 }
 
 // How a walk ended: back at its first arc, at a missing link, or cut off at its bound.
-#[derive(Drop)]
+#[derive(Clone, Copy)]
 pub enum Ended {
     Closed,
     Open,
@@ -97,14 +97,14 @@ pub enum Ended {
 }
 
 // A walk of at most 64 arcs, and how it ended.
-#[derive(Drop)]
+#[derive(Clone, Copy)]
 pub struct Walk {
     pub links: Links,
     pub ended: Ended,
 }
 
 // The nine edits with what the caller gives, by keys. The keys of a face insert stand beside it, as a list.
-#[derive(Drop)]
+#[derive(Clone, Copy)]
 pub enum Edit {
     VertexInsert(Position),
     FaceInsert(u32),
@@ -118,7 +118,7 @@ pub enum Edit {
 }
 
 // A call of an edit, with whatever a call may choose.
-#[derive(Drop)]
+#[derive(Clone, Copy)]
 pub struct Call {
     pub edit: Edit,
 }

@@ -31,7 +31,7 @@ pub const CHUNK: usize = 1024;
 pub const ANSWERS: usize = 65536;
 
 // Where a line stands after some bytes of a chunk: the place after them, how many bytes of the line are held, and whether it ended.
-#[derive(Drop)]
+#[derive(Clone, Copy)]
 pub struct Gathered {
     pub next: usize,
     pub held: usize,
@@ -39,7 +39,7 @@ pub struct Gathered {
 }
 
 // After some bytes of a chunk: the place after them, how many bytes of an unended line are held, and the place after the answers.
-#[derive(Drop)]
+#[derive(Clone, Copy)]
 pub struct Fed {
     pub next: usize,
     pub held: usize,

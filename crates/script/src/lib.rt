@@ -18,35 +18,35 @@ pub const LINE: usize = 512;
 pub const KEYS: usize = 256;
 
 // Digits as a number that is at most a limit, or none.
-#[derive(Drop)]
+#[derive(Clone, Copy)]
 pub enum Digits {
     Value(u32),
     Unread,
 }
 
 // The letter that a field is, with the place of the next field: 0, with which no line begins, where the field is not one byte.
-#[derive(Drop)]
+#[derive(Clone, Copy)]
 pub struct Letter {
     pub byte: u8,
     pub next: usize,
 }
 
 // The number in a field, with the place of the next field; or no number, or no field.
-#[derive(Drop)]
+#[derive(Clone, Copy)]
 pub enum Field {
     Number(u32, usize),
     NoNumber,
 }
 
 // The coordinate in a field, with the place of the next field; or none.
-#[derive(Drop)]
+#[derive(Clone, Copy)]
 pub enum Offset {
     Coordinate(f64, usize),
     NoCoordinate,
 }
 
 // Three coordinates and nothing after them, or else nothing.
-#[derive(Drop)]
+#[derive(Clone, Copy)]
 pub enum Spot {
     At(Position),
     Nowhere,
@@ -54,7 +54,7 @@ pub enum Spot {
 
 // Numbers in fields one after the other, with the place of the next field: so many of them, and the places from count on are 0.
 // Where a field is no number, none are read, and the place is that of the first field.
-#[derive(Drop)]
+#[derive(Clone, Copy)]
 pub struct Numbers {
     pub read: bool,
     pub values: [u32; KEYS],
@@ -63,7 +63,7 @@ pub struct Numbers {
 }
 
 // What stands on a line: its letter, the numbers after it, and the point after those.
-#[derive(Drop)]
+#[derive(Clone, Copy)]
 pub struct Contents {
     pub letter: u8,
     pub numbers: Numbers,
@@ -71,28 +71,28 @@ pub struct Contents {
 }
 
 // Exactly so many numbers and nothing after them, 0 past the last; or else nothing.
-#[derive(Drop)]
+#[derive(Clone, Copy)]
 pub enum Exact {
     Four(u32, u32, u32, u32),
     Otherwise,
 }
 
 // At most two numbers, 0 past the last, and then three coordinates and nothing after them; or else nothing.
-#[derive(Drop)]
+#[derive(Clone, Copy)]
 pub enum Aim {
     To(u32, u32, Position),
     Aimless,
 }
 
 // What a line says: an edit, or nothing that can be read.
-#[derive(Drop)]
+#[derive(Clone, Copy)]
 pub enum Said {
     Unreadable,
     Says(Edit),
 }
 
 // What a line says with its keys: so many of them, and the places from count on are 0.
-#[derive(Drop)]
+#[derive(Clone, Copy)]
 pub struct Parsed {
     pub said: Said,
     pub keys: [u32; KEYS],
@@ -100,7 +100,7 @@ pub struct Parsed {
 }
 
 // What is told of an answer: the number of a refusal; or that it was done, with none, one or two numbers.
-#[derive(Drop)]
+#[derive(Clone, Copy)]
 pub enum Words {
     No(u32),
     Bare,
@@ -109,7 +109,7 @@ pub enum Words {
 }
 
 // The name of a record: none, a key, or an arc's two vertex keys.
-#[derive(Drop)]
+#[derive(Clone, Copy)]
 pub enum Name {
     Absent,
     Key(u32),

@@ -9,7 +9,7 @@ ghost use Rattle.script.specs.Fields.{letter_at, numbers_at, spot_of, fields_fro
 
 use crate::{Letter, Numbers, Spot, fields};
 
-#[derive(Drop)]
+#[derive(Clone, Copy)]
 pub struct Line<'a> {
     pub text: &'a [u8],
     pub at: usize,

@@ -14,7 +14,7 @@ use names::ROWS;
 use rules::{EdgeRow, FaceRow, VertexRow};
 
 // Whether the keys of each table were found to rise.
-#[derive(Drop)]
+#[derive(Clone, Copy)]
 pub struct Ordered {
     pub vertices: bool,
     pub edges: bool,

@@ -13,14 +13,14 @@ use crate::{blanks, edges, holders, keys, links, places};
 use rules::{ArcRow, EdgeRow, PositionRow, VertexRow};
 
 // Whether every row passes, and whether the keys were found to rise.
-#[derive(Drop)]
+#[derive(Clone, Copy)]
 pub struct Rows {
     pub passed: bool,
     pub rising: bool,
 }
 
 // How many edges there are, plus one, where every row passes, else 0; and whether their keys were found to rise.
-#[derive(Drop)]
+#[derive(Clone, Copy)]
 pub struct Named {
     pub there: usize,
     pub rising: bool,

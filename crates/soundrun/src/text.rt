@@ -1,7 +1,7 @@
 // The lines of a script: a name up to its colon, and after it stores of four numbers each. Every function reads any bytes, from any place.
 
 // A number that was read, and the place after it.
-#[derive(Drop)]
+#[derive(Clone, Copy)]
 pub struct Read {
     pub value: u32,
     pub next: usize,
@@ -9,7 +9,7 @@ pub struct Read {
 }
 
 // A store that was read: into which table, at which link and cell, what; and the place after it.
-#[derive(Drop)]
+#[derive(Clone, Copy)]
 pub struct Store {
     pub table: u32,
     pub link: u32,

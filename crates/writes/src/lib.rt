@@ -10,7 +10,7 @@ pub mod bodies; // bodies.rt: the records of a kind, in key order
 pub mod files; // files.rt: the whole file, and the call
 
 // How many records each body has.
-#[derive(Drop)]
+#[derive(Clone, Copy)]
 pub struct Counts {
     pub vertices: u32,
     pub arcs: u32,
@@ -19,7 +19,7 @@ pub struct Counts {
 }
 
 // What writing answers: 0 with the length, or 1 or 7 with none.
-#[derive(Drop)]
+#[derive(Clone, Copy)]
 pub struct Wrote {
     pub number: u32,
     pub count: u32,
