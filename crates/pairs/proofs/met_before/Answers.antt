@@ -27,9 +27,6 @@ next-few : (c : goal.After-place_after) → c.place_after.result < c.args.n
 next-few c =
     next-on c.args.n c.args.i c.place_after.result c.requires.1 c.place_after.ensures
 
-mul-b : tie.Need-overflow-mul-b invariant-loop decreases-loop
-mul-b c = omega (arith, next-few c, c.before.before.before.before.requires.0)
-
 pub bounds-at-place_after : goal.bounds-at-place_after
 bounds-at-place_after c = omega (arith, next-few c, c.requires.0, c.known_places.ensures)
 
@@ -37,24 +34,27 @@ pub loop-j-init : goal.loop-j-init
 unfolding some_below
 loop-j-init c = (search rules, λ p h. refl)
 
--- at the loop: each pair before i, by the array
-by-array : (l : goal.At-loop-j) (k : ℕ) → let a = l.args in let per = list_of (first a.at.now a.n) in k < a.i → meets per (get_or per a.i 0) (get_or per (after (length per) a.i) 0) k ≡ same_two (get_or a.at.now k 0) (get_or a.at.now (k + 1) 0) (get_or a.at.now a.i 0) (get_or a.at.now l.place_after.result 0)
-by-array l k q =
-    let a = l.args in
-    let per = first a.at.now a.n in
-    let j = l.place_after in
-    let all = all_there a.at.now a.n l.known_places.ensures l.requires.0 in
-    let from = place_in per a.n a.i all l.requires.1 in
-    let to = place_in per a.n j.result all (next-on a.n a.i j.result l.requires.1 j.ensures) in
-    pair-two per a.i k a.n j.result (get_or a.at.now a.i 0) (get_or a.at.now j.result 0) (omega (arith, all, l.requires.1)) q all j.ensures from to
+-- each pair before i, by the array
+by-array :
+    (at : List ℕ) (n i j k : ℕ) → length at ≡ 64 → n ≤ 64 → i < n → j ≡ after n i →
+    let per = list_of (first at n) in
+    k < i →
+    meets per (get_or per i 0) (get_or per (after (length per) i) 0) k
+    ≡ same_two (get_or at k 0) (get_or at (k + 1) 0) (get_or at i 0) (get_or at j 0)
+by-array at n i j k known few within after-it q =
+    let per = first at n in
+    let all = all_there at n known few in
+    let from = place_in per n i all within in
+    let to = place_in per n j all (next-on n i j within after-it) in
+    pair-two per i k n j (get_or at i 0) (get_or at j 0) (omega (arith, all, within)) q all after-it from to
 
 pub returns-then-same_two : goal.returns-then-same_two
 unfolding met_before list_of
 returns-then-same_two c =
-    let l = c.before.before.before.before.before in let a = c.args in
+    let a = c.args in
     let per = list_of (first a.at.now a.n) in
     let meet = meets per (get_or per a.i 0) (get_or per (after (length per) a.i) 0) in
-    sym (some-here meet a.i c.loop-j.j (search rules) (by-array l c.loop-j.j (search rules) ∙ sym c.same_two.ensures ∙ c.if-same_two.true))
+    sym (some-here meet a.i c.loop-j.j (search rules) (by-array a.at.now a.n a.i c.place_after.result c.loop-j.j c.known_places.ensures c.requires.0 c.requires.1 c.place_after.ensures (search rules) ∙ sym c.same_two.ensures ∙ c.if-same_two.true))
 
 pub loop-j-preserved : goal.loop-j-preserved
 loop-j-preserved c =
@@ -63,7 +63,7 @@ loop-j-preserved c =
 pub returns : goal.returns
 unfolding met_before list_of
 returns c =
-    let l = c.before in let a = c.args in
+    let a = c.args in
     let per = list_of (first a.at.now a.n) in
     let all : c.loop-j.j ≡ a.i = omega arith in
-    sym (rw all at (c.loop-j.invariant.1 (meets per (get_or per a.i 0) (get_or per (after (length per) a.i) 0)) (by-array l)))
+    sym (rw all at (c.loop-j.invariant.1 (meets per (get_or per a.i 0) (get_or per (after (length per) a.i) 0)) (λ k. by-array a.at.now a.n a.i c.place_after.result k c.known_places.ensures c.requires.0 c.requires.1 c.place_after.ensures)))

@@ -10,7 +10,7 @@ use Rattle.pairs.specs.Pairs.{noted}
 use Rattle.pairs.proofs.Steps.{pair-starts, pair-elsewhere, note-here, note-next}
 use borrow.Author.Rules.{rules}
 use Rattle.pairs.proofs.note.Goals as goal
-use Rattle.pairs.proofs.note.Goals.{else-s-from, then-s-from}
+use Rattle.pairs.proofs.note.Goals.{then-s-from+then-leads_to, then-s-from+else-leads_to, else-s-from}
 
 pub returns-then-s-eq0 : goal.returns-then-s-eq0
 unfolding noted
@@ -28,8 +28,13 @@ loop-i-preserved c =
     let on : i < length per = omega (arith, c.size-n.ensures) in
     let next = note-next per a.s a.d a.x a.at.now c.loop-i.at i c.loop-i.invariant.1 in (
       search rules,
-      elim c.if-s-from.branch [ then-s-from w ↦ w.??5 ∙ note-here per a.s a.d a.x a.at.now c.loop-i.at i c.loop-i.invariant.1 w.or_else-arg-1.result (pair-starts a.per i a.s a.d on w.if-s-from.true w.leads_to.result w.leads_to.ensures ∙ w.if-leads_to.true) w.or_else-arg-1.ensures | (⊎_ELIM (λ w. w.3 ∙ next (pair-starts a.per i a.s a.d on w.0.taken w.1.result w.1.ensures ∙ w.2.left))
-          (λ w. w.1 ∙ next (pair-elsewhere a.per i a.s a.d on w.0.left))) ],
+      elim c.if-s-from.branch [
+        then-s-from+then-leads_to w ↦
+          w.at-is ∙ note-here per a.s a.d a.x a.at.now c.loop-i.at i c.loop-i.invariant.1 w.or_else.result
+            (pair-starts a.per i a.s a.d on w.if-s-from.true w.leads_to.result w.leads_to.ensures ∙ w.if-leads_to.true) w.or_else.ensures
+      | then-s-from+else-leads_to w ↦
+          w.at-is ∙ next (pair-starts a.per i a.s a.d on w.if-s-from.true w.leads_to.result w.leads_to.ensures ∙ w.if-leads_to.false)
+      | else-s-from w ↦ w.at-is ∙ next (pair-elsewhere a.per i a.s a.d on w.if-s-from.false) ],
     )
 
 pub returns : goal.returns

@@ -9,4 +9,4 @@ returns c =
     let s = c.args in
     let m = mesh v p s.arcs.now e s.faces.now k in
     let walk = c.ring-walk in
-    rw (c.clear_faces.ensures, c.put_row3.ensures) (taken_out m s.f c..result walk.result c..ensures walk.ensures)
+    rw (c.clear_faces.ensures, c.put_row3.ensures) (taken_out m s.f c.cell3-first.result walk.result c.cell3-first.ensures walk.ensures)

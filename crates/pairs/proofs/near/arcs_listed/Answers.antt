@@ -10,7 +10,7 @@ use Rattle.pairs.proofs.Steps.{item-is}
 use Rattle.pairs.proofs.Lookup.{all-early, sought-skip, sought-note, sought-read, sought-end}
 use borrow.Author.Rules.{rules}
 use Rattle.pairs.proofs.near.arcs_listed.Goals as goal
-use Rattle.pairs.proofs.near.arcs_listed.Goals.{else-s-eq0, then-s-eq0}
+use Rattle.pairs.proofs.near.arcs_listed.Goals.{then-s-eq0+else-k-used, else-s-eq0+then-seen-wide, else-s-eq0+else-seen-wide}
 
 pub arcs_chained-at-requires : goal.arcs_chained-at-requires
 arcs_chained-at-requires c =
@@ -48,8 +48,13 @@ loop-k-preserved c =
     let few : size.result ≤ 64 = omega (arith, c.known_few.ensures, size.ensures) in (
       search rules,
       sought-read arcs f t size.result near c.loop-k.k c.if-s-eq0.at
-          (elim c.if-s-eq0.branch [ then-s-eq0 w ↦ rw w.??2 (sought-skip arcs f t size.result list x c.loop-k.at c.loop-k.invariant.1 (λ i q ne e. ne (sym e ∙ sym s.ensures ∙ w.if-s-eq0.true))) | (⊎_ELIM (λ w. rw w.8 (sought-note arcs f t size.result list x c.loop-k.at c.loop-k.invariant.1 s.result w.6.result w.7.last.0 few s.ensures w.6.ensures w.0.left w.7.ensures))
-          (λ w. rw w.3 (sought-skip arcs f t size.result list x c.loop-k.at c.loop-k.invariant.1 (λ i q ne e. unmarked per s.result (rw (← c.mark.ensures, ← w.1.ensures) w.2.left) i (omega (arith, size.ensures)) (s.ensures ∙ e ∙ item-is a.per i (omega (arith, size.ensures))))))) ]),
+          (elim c.if-s-eq0.branch [
+            then-s-eq0+else-k-used w ↦
+              rw w.at-is (sought-skip arcs f t size.result list x c.loop-k.at c.loop-k.invariant.1 (λ i q ne e. ne (sym e ∙ sym s.ensures ∙ w.if-s-eq0.true)))
+          | else-s-eq0+then-seen-wide w ↦
+              rw w.at-is (sought-note arcs f t size.result list x c.loop-k.at c.loop-k.invariant.1 s.result w.cell6.result w.note_listed.new.at few s.ensures w.cell6.ensures w.if-s-eq0.false w.note_listed.ensures)
+          | else-s-eq0+else-seen-wide w ↦
+              rw w.at-is (sought-skip arcs f t size.result list x c.loop-k.at c.loop-k.invariant.1 (λ i q ne e. unmarked per s.result (rw (← c.mark.ensures, ← w.wide.ensures) w.if-seen-wide.false) i (omega (arith, size.ensures)) (s.ensures ∙ e ∙ item-is a.per i (omega (arith, size.ensures))))) ]),
     )
 
 pub returns : goal.returns

@@ -18,9 +18,6 @@ place-fits c =
     let n = c.size-n in
     omega (arith, c.place_after.ensures, after_on n.result c.loop-i.i (search rules), n.ensures, c.known_few.ensures)
 
-mul-to : tie.Need-overflow-mul-to invariant-loop decreases-loop
-mul-to c = omega (arith, place-fits c)
-
 pub bounds-from-place_after : goal.bounds-from-place_after
 bounds-from-place_after c = place-fits c
 

@@ -7,12 +7,12 @@ use Rattle.rules.specs.Mesh.{list_of}
 use Rattle.pairs.proofs.Steps.{item-is}
 use Rattle.pairs.proofs.Lookup.{all-early, sought-skip, sought-note, sought-read, sought-end}
 use Rattle.pairs.proofs.near.few_listed.Goals as goal
-use Rattle.pairs.proofs.near.few_listed.Goals.{else-s-eq0, then-s-eq0}
+use Rattle.pairs.proofs.near.few_listed.Goals.{then-s-eq0+else-k-used, else-s-eq0+then-of_four, else-s-eq0+else-of_four}
 
 pub arcs_chained-at-requires : goal.arcs_chained-at-requires
 arcs_chained-at-requires c =
     let p = c.requires in
-    (omega (arith, c.size-size.ensures, p.1), (omega (arith, p.0.0, p.0.1.1.0.0), p.0.1.1.0.1))
+    (omega (arith, c.size-size.ensures, p.per_len_bound), (omega (arith, p.n_bound.0, p.n_bound.1.1.0.0), p.n_bound.1.1.0.1))
 
 pub loop-k-init : goal.loop-k-init
 loop-k-init c = (c.requires.n_bound.1.1.0.0, c.arcs_chained-at.ensures)
@@ -30,7 +30,7 @@ note_listed-requires c =
 
 pub loop-k-preserved : goal.loop-k-preserved
 loop-k-preserved c =
-    let e = c.before.before.before.before in let a = c.args in
+    let a = c.args in
     let arcs = a.arcs.now in
     let f = a.per.at in
     let t = c.ends-to.result in
@@ -43,8 +43,13 @@ loop-k-preserved c =
     let next : c.loop-k.k + 1 ≤ a.n = omega (arith, c.loop-k-test.true) in (
       next,
       sought-read arcs f t size near c.loop-k.k c.if-s-eq0.at
-          (elim c.if-s-eq0.branch [ then-s-eq0 w ↦ rw w.??2 (sought-skip arcs f t size list x c.loop-k.at c.loop-k.invariant.1 (λ i q ne e. ne (sym e ∙ sym s.ensures ∙ w.if-s-eq0.true))) | (⊎_ELIM (λ w. rw w.9 (sought-note arcs f t size list x c.loop-k.at c.loop-k.invariant.1 s.result w.7.result w.8.last.0 (omega arith) s.ensures w.7.ensures w.0.left w.8.ensures))
-          (λ w. rw w.4 (sought-skip arcs f t size list x c.loop-k.at c.loop-k.invariant.1 (λ i q ne e. w.2.ensures w.3.left i (omega arith) (s.ensures ∙ e))))) ]),
+          (elim c.if-s-eq0.branch [
+            then-s-eq0+else-k-used w ↦
+              rw w.at-is (sought-skip arcs f t size list x c.loop-k.at c.loop-k.invariant.1 (λ i q ne e. ne (sym e ∙ sym s.ensures ∙ w.if-s-eq0.true)))
+          | else-s-eq0+then-of_four w ↦
+              rw w.at-is (sought-note arcs f t size list x c.loop-k.at c.loop-k.invariant.1 s.result w.cell6.result w.note_listed.new.at (omega arith) s.ensures w.cell6.ensures w.if-s-eq0.false w.note_listed.ensures)
+          | else-s-eq0+else-of_four w ↦
+              rw w.at-is (sought-skip arcs f t size list x c.loop-k.at c.loop-k.invariant.1 (λ i q ne e. w.of_four.ensures w.if-of_four.false i (omega arith) (s.ensures ∙ e))) ]),
     )
 
 pub returns : goal.returns

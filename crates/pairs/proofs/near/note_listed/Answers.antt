@@ -5,7 +5,7 @@ use mathlib.Core.Path.{◌≡◌}
 use Rattle.pairs.proofs.Lookup.{noted-start, noted_here, noted-starts, noted-leads}
 use borrow.Author.Rules.{rules}
 use Rattle.pairs.proofs.near.note_listed.Goals as goal
-use Rattle.pairs.proofs.near.note_listed.Goals.{else-s-from, then-s-from}
+use Rattle.pairs.proofs.near.note_listed.Goals.{then-s-from+then-d-to, then-s-from+else-d-to, else-s-from}
 
 pub loop-i-init : goal.loop-i-init
 loop-i-init c =
@@ -19,8 +19,11 @@ loop-i-preserved c =
     let f = a.from.now in
     let t = a.to.now in (
       search rules,
-      elim c.if-s-from.branch [ then-s-from w ↦ rw w.??5 (noted_here f t a.s a.d a.x a.at.now i c.loop-i.at c.loop-i.invariant.1 w.way_told-then-d-to-1.result w.if-s-from.true w.t17-1.true w.way_told-then-d-to-1.ensures) | (⊎_ELIM (λ w. rw w.3 (noted-leads f t a.s a.d a.x a.at.now i c.loop-i.at c.loop-i.invariant.1 w.0.taken w.2.left))
-          (λ w. rw w.1 (noted-starts f t a.s a.d a.x a.at.now i c.loop-i.at c.loop-i.invariant.1 w.0.left))) ],
+      elim c.if-s-from.branch [
+        then-s-from+then-d-to w ↦
+          rw w.at-is (noted_here f t a.s a.d a.x a.at.now i c.loop-i.at c.loop-i.invariant.1 w.lower.result w.if-s-from.true w.if-d-to.true w.lower.ensures)
+      | then-s-from+else-d-to w ↦ rw w.at-is (noted-leads f t a.s a.d a.x a.at.now i c.loop-i.at c.loop-i.invariant.1 w.if-s-from.true w.if-d-to.false)
+      | else-s-from w ↦ rw w.at-is (noted-starts f t a.s a.d a.x a.at.now i c.loop-i.at c.loop-i.invariant.1 w.if-s-from.false) ],
     )
 
 pub returns : goal.returns

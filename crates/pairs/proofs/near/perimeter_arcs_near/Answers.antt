@@ -11,7 +11,10 @@ few_listed-requires c =
     let t = c.tells.ensures c.if-tells.true in
     let m = c.all_marked.ensures c.if-all_marked.true in
     let known = c.requires t.some t.within t.free in
-    ((t.few, (t.fits, (known.1, (known.0.ends, λ i q. all_from a.arcs.now a.seen.now (take a.by.len a.near.now) a.by.spare a.by.used (get_or (list_of a.per) i 0) known.0 (m i q))))), omega (arith, c.size.ensures))
+    record {
+      n_bound = (t.few, (t.fits, (known.1, (known.0.ends, λ i q. all_from a.arcs.now a.seen.now (take a.by.len a.near.now) a.by.spare a.by.used (get_or (list_of a.per) i 0) known.0 (m i q)))));
+      per_len_bound = omega (arith, c.size.ensures);
+    }
 
 pub returns-then-size-le4 : goal.returns-then-size-le4
 returns-then-size-le4 c = c.few_listed.ensures
