@@ -87,19 +87,18 @@ module _ (m : Mesh) (n k : Need) (h : AtMost n k) where
 
 -- ---- the need, where the most is told
 
--- the variants of the edits that ask no pair for its arc, by their places in `Edit`
-abbrev others : List ℕ
-others = 0 ∷ 2 ∷ 4 ∷ 5 ∷ 6 ∷ 8 ∷ []
-
 -- such an edit needs what is told
-pub none-asked : (m : Mesh) (e : Edit) (keys : List ℕ) → OneOf others (tag_of the_type e) → most m e keys ≡ need m e keys
+pub none-asked :
+    (m : Mesh) (e : Edit) (keys : List ℕ) →
+    ((mark : ℕ) → e ≡ FaceInsert mark → ⊥) → ((f s d : ℕ) → e ≡ FaceSplit f s d → ⊥) → ((a b c d : ℕ) → e ≡ ArcBridge a b c d → ⊥) →
+    most m e keys ≡ need m e keys
 unfolding most
-none-asked m (VertexInsert p) keys h = refl
-none-asked m (FaceInsert mark) keys h = absurd (miss others 1 tt h)
-none-asked m (FaceRemove f) keys h = refl
-none-asked m (FaceSplit f s d) keys h = absurd (miss others 3 tt h)
-none-asked m (FacePoke f p) keys h = refl
-none-asked m (FaceBridge f g) keys h = refl
-none-asked m (FaceExtrude f move) keys h = refl
-none-asked m (ArcBridge a b c d) keys h = absurd (miss others 7 tt h)
-none-asked m (ArcExtrude s d move) keys h = refl
+none-asked m (VertexInsert p) keys i s b = refl
+none-asked m (FaceInsert mark) keys i s b = absurd (i mark refl)
+none-asked m (FaceRemove f) keys i s b = refl
+none-asked m (FaceSplit f x d) keys i s b = absurd (s f x d refl)
+none-asked m (FacePoke f p) keys i s b = refl
+none-asked m (FaceBridge f g) keys i s b = refl
+none-asked m (FaceExtrude f move) keys i s b = refl
+none-asked m (ArcBridge x y z d) keys i s b = absurd (b x y z d refl)
+none-asked m (ArcExtrude s d move) keys i t b = refl

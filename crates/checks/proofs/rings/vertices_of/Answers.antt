@@ -1,0 +1,13 @@
+-- `checks::rings::vertices_of` meets its contract. A ring of at most 64 is read back as it is. Assumes nothing.
+use Prim.Native.Nat.{◌-◌}
+use mathlib.Core.Path.{◌∙◌}
+use Rattle.rules.specs.Mesh.{mesh}
+use Rattle.rules.specs.Link.{ring_vertices}
+use Rattle.checks.proofs.Bounds.{ring-back}
+use Rattle.checks.proofs.rings.vertices_of.Goals as goal
+
+pub returns : goal.returns
+unfolding ring_vertices
+returns c =
+    let a = c.args in
+    λ vs ps es ks. c.ring_vertices.ensures ∙ rw (c.ring_of.ensures vs ps es ks, ring-back (mesh vs ps a.arcs.now es a.faces.now ks) a.f)

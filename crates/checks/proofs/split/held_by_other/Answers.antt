@@ -1,0 +1,40 @@
+-- `checks::split::held_by_other` meets its contract. The loop keeps that no pair passed by is (held l) by another face; laws of Below. Assumes nothing.
+use borrow.Author.Rules.{rules}
+use Prim.Native.Nat.{◌-◌}
+use native.Mathlib.Omega.{arith}
+use mathlib.Core.Path.{◌≡◌, refl, sym, ◌∙◌}
+use lib.ListN.{length}
+use Rattle.rules.specs.Table.{some_below}
+use Rattle.rules.specs.Mesh.{mesh, list_of}
+use Rattle.rules.specs.Edit.{held_by_other}
+use Rattle.pairs.proofs.Below.{some_more, some-here}
+use Rattle.checks.proofs.Pairs.{taken}
+use Rattle.pairs.specs.Pairs.{arcs_of}
+use Rattle.pairs.proofs.Listed.{arcs-held}
+use Rattle.checks.proofs.split.held_by_other.Goals as goal
+
+pub loop-i-init : goal.loop-i-init
+unfolding some_below
+loop-i-init c = (search rules, λ vs ps es fs ks per e. refl)
+
+pub returns-then-other_holds : goal.returns-then-other_holds
+unfolding held_by_other
+returns-then-other_holds c =
+    let held : (let a = c.args in list_of c.perimeter_arcs-xs.result ≡ arcs_of a.arcs.now (list_of a.per)) = (let a = c.args in
+    arcs-held a.arcs.now (list_of a.per) c.perimeter_arcs-xs.result c.known_few.ensures c.perimeter_arcs-xs.ensures) in
+    let a = c.args in
+    λ vs ps es fs ks. sym (some-here (taken (mesh vs ps a.arcs.now es fs ks) a.f (list_of a.per)) (length (list_of a.per)) c.loop-i.i (omega (arith, c.size-n.ensures)) (sym (c.other_holds.ensures vs ps es fs ks (list_of a.per) held) ∙ c.if-other_holds.true))
+
+pub loop-i-preserved : goal.loop-i-preserved
+loop-i-preserved c =
+    let a = c.args in
+    (search rules, λ vs ps es fs ks per e. some_more (taken (mesh vs ps a.arcs.now es fs ks) a.f per) c.loop-i.i (c.loop-i.invariant.1 vs ps es fs ks per e) (sym (c.other_holds.ensures vs ps es fs ks per e) ∙ c.if-other_holds.false))
+
+pub returns : goal.returns
+unfolding held_by_other
+returns c =
+    let held : (let a = c.args in list_of c.perimeter_arcs-xs.result ≡ arcs_of a.arcs.now (list_of a.per)) = (let a = c.args in
+    arcs-held a.arcs.now (list_of a.per) c.perimeter_arcs-xs.result c.known_few.ensures c.perimeter_arcs-xs.ensures) in
+    let a = c.args in
+    let all : c.loop-i.i ≡ length (list_of a.per) = omega (arith, c.size-n.ensures) in
+    λ vs ps es fs ks. sym (rw all at (c.loop-i.invariant.1 vs ps es fs ks (list_of a.per) held))

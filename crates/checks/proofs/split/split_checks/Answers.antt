@@ -1,0 +1,40 @@
+-- `checks::split::split_checks` meets its contract. A law of Splits for each way out. Assumes nothing.
+use Prim.Native.Nat.{◌-◌}
+use Rattle.rules.specs.Mesh.{mesh}
+use Rattle.checks.proofs.Splits.{no-face, no_source, no-dest, too-near, left-held, right-held, splits}
+use Rattle.checks.proofs.split.split_checks.Goals as goal
+
+pub returns-then-f-eq0 : goal.returns-then-f-eq0
+returns-then-f-eq0 c =
+    let a = c.args in
+    λ vs ps es ks. no-face (mesh vs ps a.arcs.now es a.faces.now ks) a.f a.s a.d c.if-f-eq0.true
+
+pub returns-then-from-eq0 : goal.returns-then-from-eq0
+returns-then-from-eq0 c =
+    let a = c.args in
+    λ vs ps es ks. no_source (mesh vs ps a.arcs.now es a.faces.now ks) a.f a.s a.d c.if-f-eq0.false (c.vertices_of-points.ensures vs ps es ks) c.place_in-from.ensures c.if-from-eq0.true
+
+pub returns-then-to-eq0 : goal.returns-then-to-eq0
+returns-then-to-eq0 c =
+    let a = c.args in
+    λ vs ps es ks. no-dest (mesh vs ps a.arcs.now es a.faces.now ks) a.f a.s a.d c.if-f-eq0.false (c.vertices_of-points.ensures vs ps es ks) c.place_in-from.ensures c.if-from-eq0.false c.place_in-to.ensures c.if-to-eq0.true
+
+pub returns-then-ring_distance-lt2 : goal.returns-then-ring_distance-lt2
+returns-then-ring_distance-lt2 c =
+    let a = c.args in
+    λ vs ps es ks. too-near (mesh vs ps a.arcs.now es a.faces.now ks) a.f a.s a.d c.if-f-eq0.false (c.vertices_of-points.ensures vs ps es ks) c.place_in-from.ensures c.if-from-eq0.false c.place_in-to.ensures c.if-to-eq0.false c.size.ensures c.ring_distance.ensures c.if-ring_distance-lt2.true
+
+pub returns-then-held_by_other : goal.returns-then-held_by_other
+returns-then-held_by_other c =
+    let a = c.args in
+    λ vs ps es ks. left-held (mesh vs ps a.arcs.now es a.faces.now ks) a.f a.s a.d c.if-f-eq0.false (c.vertices_of-points.ensures vs ps es ks) c.place_in-from.ensures c.if-from-eq0.false c.place_in-to.ensures c.if-to-eq0.false c.size.ensures c.ring_distance.ensures c.if-ring_distance-lt2.false (c.half.ensures vs ps es ks) (c.held_by_other.ensures vs ps es a.faces.now ks) c.if-held_by_other.true
+
+pub returns-then-held_by_other-2 : goal.returns-then-held_by_other-2
+returns-then-held_by_other-2 c =
+    let a = c.args in
+    λ vs ps es ks. right-held (mesh vs ps a.arcs.now es a.faces.now ks) a.f a.s a.d c.if-f-eq0.false (c.vertices_of-points.ensures vs ps es ks) c.place_in-from.ensures c.if-from-eq0.false c.place_in-to.ensures c.if-to-eq0.false c.size.ensures c.ring_distance.ensures c.if-ring_distance-lt2.false (c.half.ensures vs ps es ks) (c.held_by_other.ensures vs ps es a.faces.now ks) c.if-held_by_other.false (c.half-2.ensures vs ps es ks) (c.held_by_other-2.ensures vs ps es a.faces.now ks) c.if-held_by_other-2.true
+
+pub returns : goal.returns
+returns c =
+    let a = c.args in
+    λ vs ps es ks. splits (mesh vs ps a.arcs.now es a.faces.now ks) a.f a.s a.d c.if-f-eq0.false (c.vertices_of-points.ensures vs ps es ks) c.place_in-from.ensures c.if-from-eq0.false c.place_in-to.ensures c.if-to-eq0.false c.size.ensures c.ring_distance.ensures c.if-ring_distance-lt2.false (c.half.ensures vs ps es ks) (c.held_by_other.ensures vs ps es a.faces.now ks) c.if-held_by_other.false (c.half-2.ensures vs ps es ks) (c.held_by_other-2.ensures vs ps es a.faces.now ks) c.if-held_by_other-2.false
