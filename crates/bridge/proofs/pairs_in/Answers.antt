@@ -1,0 +1,83 @@
+use Prim.Native.Nat.{◌-◌}
+use native.Mathlib.Omega.{arith}
+use mathlib.Core.Path.{◌≡◌, refl, sym, ◌∙◌}
+use mathlib.Core.List.{reverse}
+use lib.ListN.{length, get_or}
+use Rattle.rules.specs.Mesh.{Mesh, mesh, list_of}
+use Rattle.insert.proofs.Filled.{filled-bridge}
+use Rattle.edits.proofs.Known.{known-each}
+use Rattle.edits.proofs.Steps.{each_none, each_goes, each-stops}
+use Rattle.makers.specs.Makers.{searching, arc_bridge_by}
+use borrow.Author.Rules.{rules}
+use Rattle.bridge.proofs.pairs_in.Goals as goal
+
+pub loop-i-init : goal.loop-i-init
+loop-i-init c =
+    let a = c.args in
+    (search rules, (record { ofv = refl; ofa = refl; ofe = refl; off = refl }, each_none (λ i n. arc_bridge_by searching n (get_or (list_of a.forth) i 0) (get_or (reverse (list_of a.back)) i 0)) (mesh a.vertices.now a.positions.now a.arcs.now a.edges.now a.faces.now a.counters.now)))
+
+pub arc_bridge-told-requires : goal.arc_bridge-told-requires
+arc_bridge-told-requires c =
+    let a = c.args in
+    let l = c.loop-i in
+    let m₀ : Mesh = mesh a.vertices.now a.positions.now a.arcs.now a.edges.now a.faces.now a.counters.now in
+    let m : Mesh = mesh l.vertices a.positions.now l.arcs l.edges l.faces l.counters in
+    known-each (λ i n. arc_bridge_by searching n (get_or (list_of a.forth) i 0) (get_or (reverse (list_of a.back)) i 0)) (λ i n. filled-bridge n (get_or (list_of a.forth) i 0) (get_or (reverse (list_of a.back)) i 0)) m₀ l.i m a.seen.now a.near.now a.around l.invariant.1.1 c.requires
+
+pub shape_of-vertices-then-not-accepted : goal.shape_of-vertices-then-not-accepted
+shape_of-vertices-then-not-accepted c = c.arc_bridge-told.auto.vertices ∙ c.loop-i.invariant.1.0.ofv
+
+pub shape_of-arcs-then-not-accepted : goal.shape_of-arcs-then-not-accepted
+shape_of-arcs-then-not-accepted c = c.arc_bridge-told.auto.arcs ∙ c.loop-i.invariant.1.0.ofa
+
+pub shape_of-edges-then-not-accepted : goal.shape_of-edges-then-not-accepted
+shape_of-edges-then-not-accepted c = c.arc_bridge-told.auto.edges ∙ c.loop-i.invariant.1.0.ofe
+
+pub shape_of-faces-then-not-accepted : goal.shape_of-faces-then-not-accepted
+shape_of-faces-then-not-accepted c = c.arc_bridge-told.auto.faces ∙ c.loop-i.invariant.1.0.off
+
+pub returns-then-not-accepted : goal.returns-then-not-accepted
+returns-then-not-accepted c =
+    let a = c.args in
+    let l = c.loop-i in
+    let g = c.arc_bridge-told in
+    let m₀ : Mesh = mesh a.vertices.now a.positions.now a.arcs.now a.edges.now a.faces.now a.counters.now in
+    let m : Mesh = mesh l.vertices a.positions.now l.arcs l.edges l.faces l.counters in
+    let m' : Mesh = mesh g.new.vertices a.positions.now g.new.arcs g.new.edges g.new.faces g.new.counters in
+    each-stops (λ i n. arc_bridge_by searching n (get_or (list_of a.forth) i 0) (get_or (reverse (list_of a.back)) i 0)) l.i (length (list_of a.forth)) m₀ m m' g.result (omega (arith, c.size-n.ensures, c.loop-i-test.true)) l.invariant.1.1
+    (g.ensures ∙ (λ j. arc_bridge_by searching m (c.item-x.ensures j) (c.item_from_end-y.ensures j))) (sym c.accepted.ensures ∙ c.if-not-accepted.true)
+
+pub loop-i-preserved : goal.loop-i-preserved
+loop-i-preserved c =
+    let a = c.args in
+    let l = c.loop-i in
+    let g = c.arc_bridge-told in
+    let k = l.invariant.1.0 in (
+      omega (arith, c.loop-i-test.true),
+      (
+        record { ofv = g.auto.vertices ∙ k.ofv; ofa = g.auto.arcs ∙ k.ofa; ofe = g.auto.edges ∙ k.ofe; off = g.auto.faces ∙ k.off },
+        let m₀ : Mesh = mesh a.vertices.now a.positions.now a.arcs.now a.edges.now a.faces.now a.counters.now in
+            let m : Mesh = mesh l.vertices a.positions.now l.arcs l.edges l.faces l.counters in
+            let m' : Mesh = mesh g.new.vertices a.positions.now g.new.arcs g.new.edges g.new.faces g.new.counters in
+            each_goes (λ i n. arc_bridge_by searching n (get_or (list_of a.forth) i 0) (get_or (reverse (list_of a.back)) i 0)) l.i m₀ m m' g.result l.invariant.1.1
+            (g.ensures ∙ (λ j. arc_bridge_by searching m (c.item-x.ensures j) (c.item_from_end-y.ensures j))) (sym c.accepted.ensures ∙ c.if-not-accepted.false),
+      ),
+    )
+
+pub shape_of-vertices : goal.shape_of-vertices
+shape_of-vertices c = c.loop-i.invariant.1.0.ofv
+
+pub shape_of-arcs : goal.shape_of-arcs
+shape_of-arcs c = c.loop-i.invariant.1.0.ofa
+
+pub shape_of-edges : goal.shape_of-edges
+shape_of-edges c = c.loop-i.invariant.1.0.ofe
+
+pub shape_of-faces : goal.shape_of-faces
+shape_of-faces c = c.loop-i.invariant.1.0.off
+
+pub returns : goal.returns
+returns c =
+    let a = c.args in
+    let all : c.loop-i.i ≡ (length (list_of a.forth)) = omega (arith, c.size-n.ensures) in
+    sym (rw all at c.loop-i.invariant.1.1)

@@ -1,0 +1,37 @@
+-- `nearby::rings::walked` meets its contract. The loop keeps what is left of the walk. Assumes nothing.
+use Prim.Native.Nat.{◌+◌, ◌-◌}
+use mathlib.Core.Path.{◌≡◌, ap, sym, ◌∙◌}
+use mathlib.Core.Bool.{true}
+use Rattle.nearby.specs.Rings.{held_at, walked_from}
+use Rattle.nearby.proofs.RingTests.{walk-leaves, walk-returns, walk-goes, walk_ends}
+use borrow.Author.Rules.{rules}
+use Rattle.nearby.proofs.rings.walked.Goals as goal
+
+pub returns-then-not-held_at : goal.returns-then-not-held_at
+returns-then-not-held_at c =
+    let a = c.args in
+    sym (c.loop-k.invariant.1 ∙ walk-leaves a.arcs.now a.g a.first c.loop-k.k c.loop-k.x (search rules) (sym c.held_at.ensures ∙ c.if-not-held_at.true))
+
+-- the arc is on the ring
+held : (c : goal.Else-not-held_at) → held_at c.args.arcs.now c.args.g c.loop-k.x ≡ true
+held c = sym c.held_at.ensures ∙ c.if-not-held_at.false
+
+pub returns-then-x-first : goal.returns-then-x-first
+returns-then-x-first c =
+    let a = c.args in
+    sym (c.loop-k.invariant.1 ∙ walk-returns a.arcs.now a.g a.first c.loop-k.k c.loop-k.x (search rules) (held c.before.before) (sym c.cell6-x.ensures ∙ c.if-x-first.true))
+
+pub loop-k-preserved : goal.loop-k-preserved
+loop-k-preserved c =
+    let a = c.args in
+    let y = c.cell6-x.ensures in (
+      search rules,
+      c.loop-k.invariant.1
+          ∙ walk-goes a.arcs.now a.g a.first c.loop-k.k c.loop-k.x (search rules) (held c.before.before) (λ e. c.if-x-first.false (y ∙ e))
+          ∙ ap (walked_from a.arcs.now a.g a.first (64 - (c.loop-k.k + 1))) (sym y),
+    )
+
+pub returns : goal.returns
+returns c =
+    let a = c.args in
+    sym (c.loop-k.invariant.1 ∙ walk_ends a.arcs.now a.g a.first c.loop-k.k c.loop-k.x (search rules))
