@@ -1,6 +1,6 @@
 -- The line of a record, of what the code reads for it; the lines of a kind, one after the other; and all kinds as the records' text.
 -- Assumes nothing.
-use Prim.Native.Nat.{ℕ, suc, ◌+◌, ◌-◌, ◌≤◌, ◌<◌}
+use Prim.Native.Nat.{ℕ, ◌+◌, ◌-◌, ◌≤◌, ◌<◌}
 use native.Mathlib.Numerals.{add-one}
 use native.Mathlib.Omega.{arith}
 use mathlib.Core.Path.{◌≡◌, refl, ap, sym, ◌∙◌}
@@ -16,7 +16,7 @@ use Rattle.rules.specs.Records.{arc_name, key_name, vertex_record, arc_record, e
 use Rattle.rules.specs.Script.{Text, newline}
 use Rattle.rules.specs.Dump.{vertex_line, arc_line, edge_line, face_line, lines_by, records_text}
 use Rattle.script.specs.declared.Name.{Name}
-use Rattle.script.specs.Texts.{Written, written, wrote}
+use Rattle.script.specs.Texts.{written, wrote}
 use Rattle.script.specs.Dumps.{keys_in, vertex_text, arc_text, edge_text, face_text, counters_text}
 use Rattle.script.proofs.Writes.{wrote_then}
 use Rattle.listing.specs.declared.Kind.{Kind}

@@ -1,5 +1,5 @@
 -- The lines of all records of a kind.
-use Rattle.std.specs.Prelude.{ℕ, List, [], ◌∷◌, ◌++◌, map}
+use Rattle.std.specs.Prelude.{ℕ, List, [], ◌∷◌, ◌++◌}
 use Rattle.rules.specs.Mesh.{Mesh}
 use Rattle.rules.specs.Records.{vertex_record, arc_record, edge_record, face_record}
 use Rattle.rules.specs.Script.{Text, newline}

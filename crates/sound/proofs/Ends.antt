@@ -1,15 +1,15 @@
 -- What one row of the edges tells, from the rows of its two arcs.
-use Prim.Native.Nat.{ℕ, ◌≤◌}
-use mathlib.Core.Path.{◌≡◌, refl, ap, sym, subst, ◌∙◌}
-use mathlib.Core.Bool.{Bool, true, false, not, ◌&&◌, ◌||◌}
+use Prim.Native.Nat.{ℕ}
+use mathlib.Core.Path.{◌≡◌, ap, sym, subst, ◌∙◌}
+use mathlib.Core.Bool.{Bool, true, false, not, ◌&&◌}
 use mathlib.Core.List.{List}
 use lib.ListN.{length, get_or}
 use lib.Dec.{T, eqb, leb, eqb→eq, le→leb}
 use lib.Ieee.Fits.{and_l, and_r, and_i}
 use borrow.Author.Tests.{eq-eqb, ne_eqb}
-use Rattle.rules.specs.Table.{Table, cell, there, used}
+use Rattle.rules.specs.Table.{Table, cell, there}
 use Rattle.rules.proofs.Sums.{same_test}
-use Rattle.proved.proofs.Rows.{T_true, true-T, differ, differ-T, if-so, so-if, in_table, cell-none}
+use Rattle.proved.proofs.Rows.{true-T, differ, differ-T, in_table, cell-none}
 use Rattle.sound.specs.Tests.{both_row, ends_row, opposite_rows, two_vertices}
 use Rattle.sound.proofs.RingSums.{no_test}
 

@@ -9,7 +9,7 @@ use lib.ListN.{length, get_or, set, replicate, length-set}
 use lib.Seq.{get_or-set_same, get_or-set_other}
 use lib.Dec.{T, eqb, leb, eqb→eq, le→leb, leb→le}
 use lib.Ieee.Fits.{and_l, and_r, and_i}
-use Rattle.rules.specs.Table.{Table, cell, there, used, every, all_below}
+use Rattle.rules.specs.Table.{Table, cell, there, used, all_below}
 use Rattle.rules.specs.Mesh.{Mesh, source, dest, next, previous, face, face_arc}
 use Rattle.rules.specs.Link.{ring}
 use Rattle.rules.proofs.Sums.{all-at}

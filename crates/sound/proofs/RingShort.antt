@@ -2,10 +2,10 @@
 use Prim.Native.Nat.{ℕ, ◌+◌, ◌<◌}
 use native.Mathlib.Omega.{arith}
 use mathlib.Core.Path.{◌≡◌, refl, ap, sym, ◌∙◌}
-use mathlib.Core.Bool.{Bool, true, not, cond, ◌&&◌}
+use mathlib.Core.Bool.{true, not, cond, ◌&&◌}
 use mathlib.Core.List.{List}
-use lib.ListN.{length, get_or, set, replicate}
-use lib.Dec.{T, eqb, leb, eqb→eq}
+use lib.ListN.{get_or, set, replicate}
+use lib.Dec.{eqb, leb, eqb→eq}
 use lib.Ieee.Fits.{and_l, and_r, and_i}
 use Rattle.rules.specs.Table.{Table, cell, used, all_below}
 use Rattle.proved.proofs.Rows.{T_true, true-T, same-T, differ}

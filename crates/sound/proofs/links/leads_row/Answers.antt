@@ -1,0 +1,15 @@
+use borrow.Author.Tests.{eq-eqb, ne_eqb}
+use Rattle.sound.specs.Tests.{leads_row}
+use Rattle.sound.proofs.links.leads_row.Goals as goal
+
+pub returns-then-row-eq0 : goal.returns-then-row-eq0
+unfolding leads_row
+returns-then-row-eq0 c = rw (eq-eqb _ _ c.if-row-eq0.true)
+
+pub returns-then-row-eq0-2 : goal.returns-then-row-eq0-2
+unfolding leads_row
+returns-then-row-eq0-2 c = rw (ne_eqb _ _ c.if-row-eq0.false, eq-eqb _ _ c.if-row-eq0-2.true)
+
+pub returns : goal.returns
+unfolding leads_row
+returns c = rw (ne_eqb _ _ c.if-row-eq0.false, ne_eqb _ _ c.if-row-eq0-2.false, c.arc_has.ensures)

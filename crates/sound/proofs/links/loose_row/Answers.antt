@@ -1,0 +1,16 @@
+use mathlib.Core.Path.{sym, ◌∙◌}
+use borrow.Author.Tests.{eq-eqb, ne_eqb}
+use Rattle.sound.specs.Tests.{loose_row}
+use Rattle.sound.proofs.links.loose_row.Goals as goal
+
+pub returns-then-row-ne0 : goal.returns-then-row-ne0
+unfolding loose_row
+returns-then-row-ne0 c = rw (ne_eqb _ _ c.if-row-ne0.true)
+
+pub returns-then-not-next_row : goal.returns-then-not-next_row
+unfolding loose_row
+returns-then-not-next_row c = rw (eq-eqb _ _ c.if-row-ne0.false, sym c.next_row.ensures ∙ c.if-not-next_row.true)
+
+pub returns : goal.returns
+unfolding loose_row
+returns c = rw (eq-eqb _ _ c.if-row-ne0.false, sym c.next_row.ensures ∙ c.if-not-next_row.false) c.previous_row.ensures

@@ -1,0 +1,19 @@
+use mathlib.Core.Path.{sym, ◌∙◌}
+use Rattle.rules.specs.Call.{finished, check_mesh}
+use Rattle.sound.proofs.queries.check_mesh.Goals as goal
+
+pub returns-then-not-is_sound : goal.returns-then-not-is_sound
+unfolding check_mesh
+returns-then-not-is_sound c = rw (sym c.is_sound.ensures ∙ c.if-not-is_sound.true)
+
+pub returns-then-all_lead : goal.returns-then-all_lead
+unfolding check_mesh finished
+returns-then-all_lead c =
+    let s = sym c.is_sound.ensures ∙ c.if-not-is_sound.false in
+    rw (s, sym c.all_lead.ensures ∙ c.if-all_lead.true)
+
+pub returns : goal.returns
+unfolding check_mesh finished
+returns c =
+    let s = sym c.is_sound.ensures ∙ c.if-not-is_sound.false in
+    rw (s, sym c.all_lead.ensures ∙ c.if-all_lead.false)
