@@ -13,7 +13,7 @@ use Rattle.bridge.proofs.pairs_in.Given as goal
 abbrev pub invariant-loop-i : goal.invariant-loop-i
 invariant-loop-i l =
     (l.i ≤ l.n) × (SameSizes (length l.vertices) (length l.arcs) (length l.edges) (length l.faces) (length l.initial.vertices) (length l.initial.arcs) (length l.initial.edges) (length l.initial.faces)
-    × (each_in (λ l.i a. arc_bridge_by searching a (get_or (list_of l.forth) l.i 0) (get_or (reverse (list_of l.back)) l.i 0)) l.i (mesh l.initial.vertices l.positions l.initial.arcs l.initial.edges l.initial.faces l.initial.counters) ≡ step (mesh l.vertices l.positions l.arcs l.edges l.faces l.counters) Done))
+    × (each_in (λ i a. arc_bridge_by searching a (get_or (list_of l.forth) i 0) (get_or (reverse (list_of l.back)) i 0)) l.i (mesh l.initial.vertices l.positions l.initial.arcs l.initial.edges l.initial.faces l.initial.counters) ≡ step (mesh l.vertices l.positions l.arcs l.edges l.faces l.counters) Done))
 
 abbrev pub decreases-loop-i : goal.decreases-loop-i
 decreases-loop-i l = l.n - l.i

@@ -17,22 +17,13 @@ perimeter_arcs_near-first-requires c = c.requires.listed
 pub perimeter_arcs_near-second-requires : goal.perimeter_arcs_near-second-requires
 perimeter_arcs_near-second-requires c = c.requires.listed
 
--- the arcs of both halves, as they are found
-held-left : (c : goal.After-perimeter_arcs_near-first) → let a = c.args in list_of c.perimeter_arcs_near-first.result ≡ arcs_of a.arcs.now (list_of a.left)
-held-left c =
-    let a = c.args in
-    arcs-held a.arcs.now (list_of a.left) c.perimeter_arcs_near-first.result c.known_few.ensures c.perimeter_arcs_near-first.ensures
-
-held-right : (c : goal.After-perimeter_arcs_near-second) → let a = c.args in list_of c.perimeter_arcs_near-second.result ≡ arcs_of a.arcs.now (list_of a.right)
-held-right c =
-    let a = c.args in
-    arcs-held a.arcs.now (list_of a.right) c.perimeter_arcs_near-second.result c.known_few-2.ensures c.perimeter_arcs_near-second.ensures
-
 pub put_face_sought-requires : goal.put_face_sought-requires
 put_face_sought-requires c =
+    let held-left : (let a = c.args in list_of c.perimeter_arcs_near-first.result ≡ arcs_of a.arcs.now (list_of a.left)) = (let a = c.args in
+    arcs-held a.arcs.now (list_of a.left) c.perimeter_arcs_near-first.result c.known_few.ensures c.perimeter_arcs_near-first.ensures) in
     let q = c.requires in
     record {
-      found_value = held-left c.before.before.before.before.before.before.before.before.before;
+      found_value = held-left;
       used_before = (q.arcs-used, (q.edges-used, q.faces-used));
     }
 
@@ -75,6 +66,10 @@ shape_of-faces c = c.put_face_sought-2.auto.faces ∙ c.put_face_sought.auto.fac
 
 pub returns : goal.returns
 returns c =
+    let held-left : (let a = c.args in list_of c.perimeter_arcs_near-first.result ≡ arcs_of a.arcs.now (list_of a.left)) = (let a = c.args in
+    arcs-held a.arcs.now (list_of a.left) c.perimeter_arcs_near-first.result c.known_few.ensures c.perimeter_arcs_near-first.ensures) in
+    let held-right : (let a = c.args in list_of c.perimeter_arcs_near-second.result ≡ arcs_of a.arcs.now (list_of a.right)) = (let a = c.args in
+    arcs-held a.arcs.now (list_of a.right) c.perimeter_arcs_near-second.result c.known_few-2.ensures c.perimeter_arcs_near-second.ensures) in
     λ p.
     let a = c.args in
     let ours = c.search_lists-ours in
@@ -84,4 +79,4 @@ returns c =
     let m : Mesh = mesh a.vertices.now p a.arcs.now a.edges.now a.faces.now a.counters.now in
     let n : Mesh = mesh g.new.vertices p g.new.arcs g.new.edges g.new.faces g.new.counters in
     let o : Mesh = mesh h.new.vertices p h.new.arcs h.new.edges h.new.faces h.new.counters in
-    both-in m n o (list_of a.left) (list_of a.right) (list_of c.perimeter_arcs_near-first.result) (list_of c.perimeter_arcs_near-second.result) (list_of c.none-none.result) (sought_of ours.result) (sought_of theirs.result) (held-left c.before.before.before.before.before.before.before.before.before.before.before.before.before.before.before.before.before.before.before.before.before.before.before.before.before) (held-right c.before.before.before.before.before.before.before.before.before.before.before.before.before.before.before.before.before.before.before.before.before.before.before.before) c.none-none.ensures (ours.ensures p a.faces.now a.counters.now) (theirs.ensures p a.faces.now a.counters.now) (g.ensures p) (h.ensures p)
+    both-in m n o (list_of a.left) (list_of a.right) (list_of c.perimeter_arcs_near-first.result) (list_of c.perimeter_arcs_near-second.result) (list_of c.none-none.result) (sought_of ours.result) (sought_of theirs.result) held-left held-right c.none-none.ensures (ours.ensures p a.faces.now a.counters.now) (theirs.ensures p a.faces.now a.counters.now) (g.ensures p) (h.ensures p)
