@@ -2,12 +2,8 @@
 use mathlib.Core.Path.{refl}
 use Rattle.script.specs.Fields.{padded}
 use Rattle.script.specs.Lines.{parsed_of}
-use Rattle.script.proofs.lines.says.Statement.{statement}
-use Rattle.script.proofs.lines.says.Tie as tie
+use Rattle.script.proofs.lines.says.Goals as goal
 
-returns : tie.Need-returns
+pub returns : goal.returns
 unfolding parsed_of padded
 returns c = refl
-
-pub says-spec : {M : Type 1} → statement M
-says-spec = tie.close (tie.spec returns)
