@@ -1,7 +1,7 @@
 -- `script::dumps::put_bits` meets its contract. The prefix, and then sixteen digits, one text after the other. Assumes nothing.
 use mathlib.Core.Path.{ap, ◌∙◌}
 use mathlib.Core.List.{[], ◌∷◌, ◌++◌}
-use Prim.Native.Nat.{ℕ, ◌+◌}
+use Prim.Native.Nat.{ℕ}
 use native.Mathlib.Omega.{arith}
 use Rattle.rules.specs.Script.{Text}
 use Rattle.rules.specs.Dump.{hex_before}

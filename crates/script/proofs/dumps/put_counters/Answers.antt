@@ -1,7 +1,6 @@
 -- `script::dumps::put_counters` meets its contract. The parts of the line, one text after the other. Assumes nothing.
 use mathlib.Core.Path.{ap, ◌∙◌}
 use mathlib.Core.List.{[], ◌∷◌, ◌++◌}
-use Prim.Native.Nat.{◌+◌}
 use native.Mathlib.Omega.{arith}
 use Rattle.rules.specs.Script.{Text, spaced}
 use Rattle.script.specs.Texts.{wrote}

@@ -1,5 +1,4 @@
 -- `script::fields::digits` meets its contract. The loop's invariant: what is read is the digits that are left, after those whose value is at hand, which the limit bounds. Assumes nothing.
-use Prim.Native.Nat.{◌-◌}
 use mathlib.Core.Path.{ap, sym, ◌∙◌}
 use Rattle.script.specs.Fields.{digits_of}
 use Rattle.script.proofs.Values.{here-low, here-high, here-next, here-over, here-begin, here_end, here-none}

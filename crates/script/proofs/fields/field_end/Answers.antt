@@ -1,5 +1,4 @@
 -- `script::fields::field_end` meets its contract. The loop's invariant: the field ends where the place at hand says it does. The measure is what is left of the line. Assumes nothing.
-use Prim.Native.Nat.{◌-◌}
 use mathlib.Core.Path.{refl, sym, ◌∙◌}
 use borrow.Author.Tests.{eq-eqb, ne_eqb}
 use Rattle.script.specs.Fields.{end_of}

@@ -1,5 +1,5 @@
 -- `script::fields::numbers_at` meets its contract. The loop's invariant: all numbers are those in hand and then those that are left; the places past those in hand are 0. Each number takes two bytes or more, so there is room. Assumes nothing.
-use Prim.Native.Nat.{◌-◌, ◌<◌}
+use Prim.Native.Nat.{◌<◌}
 use native.Mathlib.Omega.{arith}
 use mathlib.Core.Path.{sym, ◌∙◌}
 use Rattle.script.proofs.Left.{NumberIs, number_is, hand-begin, hand-room, hand-more, hand-unread, hand-full, hand_end}

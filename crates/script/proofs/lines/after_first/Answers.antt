@@ -1,5 +1,4 @@
 -- `script::lines::after_first` meets its contract. The invariant: the first i of the numbers after the first are copied, and 0 stands in the other places. Assumes nothing.
-use Prim.Native.Nat.{◌-◌}
 use native.Mathlib.Omega.{arith}
 use mathlib.Core.Path.{◌≡◌, ◌∙◌}
 use lib.ListN.{length}

@@ -1,7 +1,5 @@
 -- `script::texts::put_two` meets its contract. Two stores are a text of two bytes. Assumes nothing.
 use mathlib.Core.Path.{refl}
-use native.Mathlib.Omega.{arith}
-use lib.ListN.{length-set}
 use Rattle.script.proofs.Writes.{wrote-two}
 use Rattle.script.proofs.texts.put_two.Goals as goal
 
