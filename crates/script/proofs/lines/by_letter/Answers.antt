@@ -2,7 +2,7 @@
 use native.Mathlib.Omega.{arith}
 use mathlib.Core.Path.{ap, sym, ◌∙◌}
 use Rattle.script.specs.Lines.{parsed_of}
-use Rattle.script.proofs.Says.{tells-by, no-letter}
+use Rattle.script.proofs.Says.{no-letter}
 use Rattle.script.proofs.lines.by_letter.Goals as goal
 
 pub returns-in_default : goal.returns-in_default
