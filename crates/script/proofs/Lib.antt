@@ -2,7 +2,6 @@ pub mod Places
 pub mod Values
 pub mod Left
 pub mod Says
-pub mod Held
 pub mod Writes
 pub mod Spoken
 pub mod RecordTexts

@@ -42,6 +42,10 @@ pub end-within : (text : Text) (at : ℕ) → at ≤ length text → end_of text
 unfolding end_of
 end-within text at h = omega (arith, word-le (drop at text), length-drop at text)
 
+-- a place that is a field's end lies within the line
+pub end-in : (text : Text) (at n : ℕ) → at ≤ length text → n ≡ end_of text at → n ≤ length text
+end-in text at n h e = rw e (end-within text at h)
+
 pub end-from : (text : Text) (at : ℕ) → at ≤ end_of text at
 unfolding end_of
 end-from text at = omega arith

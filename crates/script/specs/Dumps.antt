@@ -1,7 +1,6 @@
 -- The lines of records as the code is given them: a name is none, a key, or an arc's two keys.
 use Rattle.std.specs.Prelude.{ℕ, cond, List, [], ◌∷◌, ◌++◌, eqb}
 use Rattle.rules.specs.declared.Position.{Position}
-use Rattle.rules.specs.Records.{VertexRecord, ArcRecord, EdgeRecord, FaceRecord}
 use Rattle.rules.specs.Script.{Text, bytes, newline, spaced}
 use Rattle.rules.specs.Dump.{name_words, bits_word, vertex_line, arc_line, edge_line, face_line}
 use Rattle.script.specs.declared.Name.{Name}

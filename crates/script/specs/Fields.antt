@@ -1,6 +1,6 @@
 -- The fields of a line by the places at which they begin, and what the code makes of a field that the rules' definitions read.
 -- A place past the line's end means that no field is left.
-use Rattle.std.specs.Prelude.{ℕ, zero, suc, ◌+◌, ◌-◌, Bool, true, false, cond, List, [], ◌∷◌, ◌++◌, length, replicate, take, drop, eqb, leb, ℤ, pos, neg_ℤ}
+use Rattle.std.specs.Prelude.{ℕ, zero, suc, ◌+◌, ◌-◌, Bool, true, false, cond, List, [], ◌∷◌, ◌++◌, length, replicate, take, drop, eqb, leb, pos, neg_ℤ}
 use Rattle.std.proofs.Math.Seq.{slice}
 use Rattle.rules.specs.Script.{Text, Reading, unread, reads, Whole, no_whole, whole, Numbers, no_numbers, numbers, Point, no_point, point, space, parts_at, number_in, coordinate_in, float_of, numbers_in}
 use Rattle.script.specs.declared.Letter.{Letter}

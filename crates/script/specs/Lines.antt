@@ -7,7 +7,6 @@ use Rattle.script.specs.declared.Exact.{Exact}
 use Rattle.script.specs.declared.Exact.TheVariants.{Four, Otherwise}
 use Rattle.script.specs.declared.Aim.{Aim}
 use Rattle.script.specs.declared.Aim.TheVariants.{To, Aimless}
-use Rattle.script.specs.declared.Said.{Said}
 use Rattle.script.specs.declared.Said.TheVariants.{Unreadable, Says}
 use Rattle.script.specs.declared.Parsed.{Parsed}
 use Rattle.script.specs.Fields.{fields_from, letter_at, spot_of, padded, numbers_of, numbers_at}

@@ -1,5 +1,5 @@
 -- Texts written into a buffer, and what is told of an answer.
-use Rattle.std.specs.Prelude.{ℕ, zero, suc, ◌+◌, ◌-◌, Bool, true, false, cond, List, [], ◌∷◌, ◌++◌, length, take, drop}
+use Rattle.std.specs.Prelude.{ℕ, ◌+◌, Bool, true, false, cond, [], ◌∷◌, ◌++◌, length, take, drop}
 use Rattle.rules.specs.declared.Answer.{Answer}
 use Rattle.rules.specs.declared.Answer.TheVariants.{Key, Arc, Mark, Arity, Done, Refused}
 use Rattle.rules.specs.declared.Refusal.TheVariants.{Argument}

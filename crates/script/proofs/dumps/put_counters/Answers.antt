@@ -1,0 +1,23 @@
+-- `script::dumps::put_counters` meets its contract. The parts of the line, one text after the other. Assumes nothing.
+use mathlib.Core.Path.{ap, ◌∙◌}
+use mathlib.Core.List.{[], ◌∷◌, ◌++◌}
+use native.Mathlib.Omega.{arith}
+use Rattle.rules.specs.Script.{Text, spaced}
+use Rattle.script.specs.Texts.{wrote}
+use Rattle.script.proofs.Writes.{wrote_then}
+use Rattle.script.proofs.RecordTexts.{counters-parts}
+use Rattle.script.proofs.dumps.put_counters.Goals as goal
+
+pub returns-clause-result_after : goal.returns-clause-result_after
+returns-clause-result_after c =
+    let o = c.args.out.now in
+    let a = c.args in
+    let x0 = c.put_byte-first in
+    let t0 : Text = 67 ∷ [] in
+    let x1 = c.put_three-last in
+    let t1 : Text = spaced (a.v ∷ a.e ∷ a.f ∷ []) in
+    let x2 = c.put_byte in
+    let t2 : Text = 10 ∷ [] in
+    let w1 = wrote_then o a.at x0.new.out x1.new.out x0.result x1.result (t0) t1 (omega (arith, c.requires, x0.ensures.next, x1.ensures.short)) x0.ensures.result_after x1.ensures.result_after in
+    let w2 = wrote_then o a.at x1.new.out x2.new.out x1.result x2.result ((t0) ++ t1) t2 (omega (arith, c.requires, x0.ensures.next, x1.ensures.short, x2.ensures.next)) (w1) x2.ensures.result_after in
+    w2 ∙ ap (wrote o a.at) (counters-parts a.v a.e a.f)

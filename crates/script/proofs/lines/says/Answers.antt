@@ -1,0 +1,9 @@
+-- `script::lines::says` meets its contract. The definition, at no keys. Assumes nothing.
+use mathlib.Core.Path.{refl}
+use Rattle.script.specs.Fields.{padded}
+use Rattle.script.specs.Lines.{parsed_of}
+use Rattle.script.proofs.lines.says.Goals as goal
+
+pub returns : goal.returns
+unfolding parsed_of padded
+returns c = refl
