@@ -1,7 +1,7 @@
 -- `order::decide::has_room` meets its contract. Room for the most is room for the need. Assumes nothing.
 use mathlib.Core.Path.{ap, sym, ◌∙◌}
 use Rattle.rules.specs.Mesh.{mesh}
-use Rattle.rules.specs.Call.{room_for, need, rules as needs_of}
+use Rattle.rules.specs.Call.{room_for, need, needs as needs_of}
 use Rattle.checks.proofs.Most.{room-for-less}
 use Rattle.order.proofs.decide.has_room.Goals as goal
 
