@@ -1,7 +1,6 @@
 -- The definitions of `rules`, computed, give what the Rust gives: every answer, every record and the counts of every case, letter for letter. Assumes nothing.
 use native.Mathlib.Omega.{arith}
 use mathlib.Core.Path.{◌≡◌, refl, ◌∙◌}
-use mathlib.Core.List.{[], ◌++◌}
 use Rattle.rules.specs.Table.{cell, put, put_row, first_row, free_row, count, every, some_below, all_below, sum_below, up_to, has, distinct}
 use Rattle.rules.specs.Mesh.{opposite_of, find_key, arc_between, one_up}
 use Rattle.rules.specs.Point.{exponent_field, finite_number, zero_number, position_at, same_place, finite_position, finite_row, zero_position_row, moved, finite_move}
@@ -13,7 +12,7 @@ use Rattle.rules.specs.Extrude.{moved_position, moved_finite, copy_one, copies, 
 use Rattle.rules.specs.Sound.{within_limits, keys_of, keys_differ, keys_below, has_both_arcs, both_arcs, ends_differ, ends_exist, pairs_differ, edge_joins, leads_out, next_leaves, previous_arrives, face_exists, names_holder, closed, comes_back, three_to_limit, sources_differ, ring_holds, holders_on_ring, runs_back, ring_sound, rings_sound, positions_zero, rest_zero, all_finite, sound}
 use Rattle.rules.specs.Call.{room_enough, zeroed, ready, given, arc_by_keys, by_keys, checks, moves_finite, pairs_without, insert_need, need, rows_for, keys_for, room_for, work, last_step, worked, decided, kept, called, finished, check_mesh}
 use Rattle.rules.specs.Records.{arc_name, key_name, vertex_record, arc_record, edge_record, face_record, used_from, put_among, in_order, key_before, arc_before, records}
-use Rattle.rules.specs.Script.{Text, state, bytes, with_head, parts_at, is_digit, value_from, digits_up_to, number_in, whole_of, coordinate_in, one_more, numbers_in, float_of, point_of, point_in, numbers_make, numbered, point_makes, pointed, keys_make, line_of, line_from, line_in, without_last_empty, lines_of, digits_before, decimal, spaced, returned, shown_keys, answer_text, empty_room, empty_mesh, after_line, after_lines, after_script, end_text, checked_end, program_on, program}
+use Rattle.rules.specs.Script.{Text, bytes, with_head, parts_at, is_digit, value_from, digits_up_to, number_in, whole_of, coordinate_in, one_more, numbers_in, float_of, point_of, point_in, numbers_make, numbered, point_makes, pointed, keys_make, line_of, line_from, line_in, without_last_empty, lines_of, digits_before, decimal, spaced, returned, shown_keys, answer_text, empty_room, empty_mesh, after_line, after_lines, after_script, end_text, checked_end, program_on, program}
 use Rattle.rules.specs.Dump.{name_words, hex_digit, hex_before, bits_word, vertex_line, arc_line, edge_line, face_line, lines_by, records_text, dumped_on}
 use Rattle.proved.specs.Unchecked.{program_unchecked}
 use Rattle.proved.proofs.EndStays.{end_stays}

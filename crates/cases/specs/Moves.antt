@@ -1,7 +1,7 @@
 -- Both moves on coordinates that no script line can say, with what the oracle, which runs the Rust, prints: its stored case, of two scales with
 -- each operation rounded once and a shift that is refused; and two shifts whose sums are rounded.
 use Prim.Native.String.{String}
-use Rattle.std.specs.Prelude.{ℕ, List, [], ◌∷◌, ◌++◌}
+use Rattle.std.specs.Prelude.{List, [], ◌∷◌, ◌++◌}
 use Rattle.std.specs.Float.{binary64}
 use Rattle.std.specs.Float.Ieee.{of_bits}
 use Rattle.rules.specs.declared.Move.TheVariants.{Shift, Scale}

@@ -6,7 +6,7 @@ use mathlib.Core.List.{List, [], ◌∷◌}
 use lib.ListN.{length, get_or}
 use lib.Dec.{eqb}
 use Rattle.rules.specs.declared.Walk.{Walk}
-use Rattle.rules.specs.Table.{Table, cell, put, put_row, up_to}
+use Rattle.rules.specs.Table.{cell, put, put_row, up_to}
 use Rattle.rules.specs.Mesh.{Mesh, mesh, with_arcs, list_of}
 use Rattle.rules.specs.Link.{set_face, walk, walk_of, ring}
 use Rattle.rules.specs.Edit.{remove}

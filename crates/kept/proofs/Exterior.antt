@@ -11,7 +11,7 @@ use mathlib.Core.Logic.{◌⊎◌, inl, inr}
 use lib.ListN.{length, get_or}
 use lib.Dec.{eqb}
 use borrow.Author.Tests.{ne_eqb, eq-eqb, eqb-true}
-use Rattle.rules.specs.Table.{Table, cell, there, up_to, after, or_else}
+use Rattle.rules.specs.Table.{Table, cell, up_to, after, or_else}
 use Rattle.rules.specs.Mesh.{Mesh, mesh, source, dest, opposite_of, opposite}
 use Rattle.rules.specs.Link.{connect}
 use Rattle.rules.specs.Insert.{arc_at, faceless_in, exterior_at, exterior}

@@ -14,7 +14,6 @@ use Rattle.proved.specs.Facts.{IsArc}
 use Rattle.kept.specs.Frame.{AllButRings, connect_in, Linked}
 use Rattle.kept.specs.Perimeter.{Perimeter, corner, Blank, Inside, outer, after_outer, before_outer, turned, Outside, Border}
 use Rattle.kept.proofs.Links.{connect-next-other, connect-next-here, connect-previous-other, connect-previous-here, connect-other, linked-connect, arc-wide, arcs-loop}
-use Rattle.kept.proofs.Rings.{ring-stays}
 use Rattle.kept.proofs.Round.{after-low, after_one, before, before-low, after-before, before-after}
 use Rattle.kept.proofs.Interior.{Joined}
 use Rattle.kept.proofs.Exterior.{outer-is, outer-leaves, outer-arrives, one-outer, pair-not-outer, exterior-turns, previous-is, next-is, outside-one}

@@ -1,20 +1,18 @@
 -- In a mesh made from nothing by calls, refused ones among them, no panel has two neighbouring corners in one spot (specs/Hair): an arc gets a face
 -- only by an insert whose checks found its ends apart, and no edit moves a vertex.
 use Prim.Native.Nat.{ℕ, ◌≤◌, ◌<◌}
-use mathlib.Core.Path.{◌≡◌, refl, ap, sym, subst, ◌∙◌}
-use mathlib.Core.Bool.{not}
+use mathlib.Core.Path.{sym, subst}
 use mathlib.Core.List.{List, [], ◌∷◌}
 use mathlib.Core.Logic.{◌⊎◌, inl, inr}
 use lib.ListN.{length, get_or}
 use lib.Dec.{T}
 use Rattle.rules.specs.Table.{every, there, after}
 use Rattle.rules.specs.Mesh.{Mesh, vertex_limit, edge_limit, face_limit, source, dest}
-use Rattle.rules.specs.Point.{position_at, same_place}
-use Rattle.rules.specs.Link.{ring, ring_vertices}
+use Rattle.rules.specs.Link.{ring}
 use Rattle.rules.specs.Insert.{in_one_spot}
 use Rattle.rules.specs.Sound.{sound}
 use Rattle.rules.specs.Script.{empty_room, empty_mesh}
-use Rattle.proved.specs.Demand.{Made, Holds, after_calls, reached}
+use Rattle.proved.specs.Demand.{Made, after_calls, reached}
 use Rattle.proved.specs.Facts.{SoundFacts, IsVertex, IsFace}
 use Rattle.proved.proofs.Reached.{reached-sound, none-there}
 use Rattle.kept.specs.Frame.{ThreeCounters}

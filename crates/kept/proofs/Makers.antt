@@ -10,23 +10,19 @@ use lib.ListN.{length}
 use lib.Dec.{eqb}
 use borrow.Author.Tests.{ne_eqb, eq-eqb}
 use Rattle.rules.specs.declared.Position.{Position}
-use Rattle.rules.specs.declared.Edit.{Edit}
-use Rattle.rules.specs.declared.Edit.TheVariants.{VertexInsert, FaceInsert, FaceRemove, FaceSplit, FacePoke, FaceBridge, FaceExtrude, ArcBridge, ArcExtrude}
 use Rattle.rules.specs.declared.Answer.TheVariants.{Key}
 use Rattle.rules.specs.Table.{free_row, up_to}
 use Rattle.rules.specs.Mesh.{Mesh, find_arc, face_kind, next_key}
 use Rattle.rules.specs.Link.{new_vertex, new_edge, get_or_insert_edge}
 use Rattle.rules.specs.Step.{step}
-use Rattle.rules.specs.Insert.{arc_at, edges_in, interior, lists_of, new_face, put_face, insert_work, insert_face}
-use Rattle.rules.specs.Edit.{arc_bridge, arc_bridge_work, split_work, poke_work, bridge_work}
-use Rattle.rules.specs.Extrude.{copy_one, copies, extrude_work, arc_extrude_work}
-use Rattle.rules.specs.Call.{insert_need, work}
+use Rattle.rules.specs.Insert.{arc_at, interior, lists_of, new_face, put_face, insert_work}
+use Rattle.rules.specs.Call.{insert_need}
 use Rattle.proved.specs.Facts.{SoundFacts}
 use Rattle.kept.specs.Frame.{AllButRings, ThreeCounters, Met, RoomForVertex, RoomForEdge, RoomForFace}
 use Rattle.kept.specs.Perimeter.{Perimeter, corner, following}
 use Rattle.kept.specs.Said.{edges_up_to}
 use Rattle.makers.specs.Search.{arcs_on}
-use Rattle.makers.specs.Makers.{Makers, ruled, LikeRules, EdgeRows, get_or_insert_edge_by, edges_up_to_by, put_face_by, insert_work_by, insert_face_by, split_work_by, poke_work_by, arc_bridge_work_by, arc_bridge_by, bridge_work_by, copy_one_by, copies_by, extrude_work_by, arc_extrude_work_by, work_by}
+use Rattle.makers.specs.Makers.{Makers, LikeRules, EdgeRows, get_or_insert_edge_by, edges_up_to_by, put_face_by, insert_work_by}
 use Rattle.kept.proofs.Free.{free-some}
 use Rattle.kept.proofs.Edge.{back-finds}
 use Rattle.kept.proofs.EdgesIn.{edges-said, each-edge-finds-room, edges-up-to}

@@ -3,7 +3,6 @@
 -- and none of them is lost (specs/Suffices). That the counters are three is the type of the code's parameter. Without the test it is no theorem: in a
 -- mesh without rows, where the test fails, an edit does run out (Witness.runs-out).
 use Prim.Native.Nat.{ℕ, ◌≤◌, zero-le}
-use native.Mathlib.Omega.{arith}
 use mathlib.Core.Path.{◌≡◌, refl}
 use mathlib.Core.List.{List, [], ◌∷◌}
 use lib.ListN.{length}
@@ -14,7 +13,7 @@ use Rattle.rules.specs.declared.Move.{Move}
 use Rattle.rules.specs.declared.Edit.{Edit}
 use Rattle.rules.specs.declared.Edit.TheVariants.{VertexInsert, FaceInsert, FaceRemove, FaceSplit, FacePoke, FaceBridge, FaceExtrude, ArcBridge, ArcExtrude}
 use Rattle.rules.specs.Table.{every}
-use Rattle.rules.specs.Mesh.{Mesh, Room, ring_limit, source, dest, face, find_vertex, find_face}
+use Rattle.rules.specs.Mesh.{Mesh, Room, ring_limit, source, dest, find_vertex, find_face}
 use Rattle.rules.specs.Point.{finite_position}
 use Rattle.rules.specs.Link.{ring}
 use Rattle.rules.specs.Step.{told, accepted}

@@ -15,7 +15,7 @@ use Rattle.kept.proofs.NewRing.{among}
 use Rattle.kept.proofs.Face.{unheld}
 use Rattle.rules.specs.declared.Edit.TheVariants.{FaceInsert}
 use Rattle.rules.specs.Table.{Table, cell, there, has, free_row, after, count, unused, sum_below}
-use Rattle.rules.specs.Mesh.{Mesh, Room, mesh, ring_limit, source, dest, next, previous, face, vertex_kind, edge_kind, face_kind, next_key, one_up, key_at}
+use Rattle.rules.specs.Mesh.{Mesh, Room, ring_limit, source, dest, next, previous, face, vertex_kind, edge_kind, face_kind, next_key, one_up, key_at}
 use Rattle.rules.specs.Insert.{arc_at, conflict, lists_of, put_face, insert_work}
 use Rattle.rules.specs.Step.{told}
 use Rattle.rules.specs.Sound.{sound}
@@ -32,7 +32,7 @@ use Rattle.kept.proofs.Counted.{met, one_up_lem, key_back, counted-here, counted
 use Rattle.kept.proofs.Free.{old-differs, old-cell, there-cases, unused-same}
 use Rattle.kept.proofs.Spared.{spared-next, spared-previous}
 use Rattle.proved.proofs.Rows.{true-T, in_table}
-use Rattle.kept.proofs.Find.{Between, arc-back, arc-some}
+use Rattle.kept.proofs.Find.{Between}
 use Rattle.kept.proofs.EdgesIn.{EdgesUpTo, need_at, on-place, grown-vertex, grown-new-edge}
 use Rattle.kept.proofs.Interior.{pair-arc, pair_found}
 use Rattle.kept.proofs.Insert.{faces-took, insert-whole, insert-ring, with_edges, edges-up, perimeter-up, room-up, result_up, Leaves, leaves, all-but-rings, edges-pair-before, edges-pair-after}

@@ -5,14 +5,14 @@ use native.Mathlib.Omega.{arith}
 use native.Mathlib.Decide.{ℕ_discrete}
 use mathlib.Core.Path.{◌≡◌, refl, sym, subst, ◌∙◌}
 use mathlib.Core.Bool.{not}
-use mathlib.Core.List.{List, []}
+use mathlib.Core.List.{List}
 use lib.Dec.{T, eqb}
 use Rattle.kept.proofs.Vertex.{place-stays}
 use Rattle.rules.specs.declared.Position.{Position}
 use Rattle.rules.specs.declared.Edit.{Edit}
 use Rattle.rules.specs.Table.{cell, has, free_row}
 use Rattle.rules.specs.Mesh.{Mesh, source, dest, next, previous, edge, face_arc}
-use Rattle.rules.specs.Point.{row_of, position_at}
+use Rattle.rules.specs.Point.{position_at}
 use Rattle.rules.specs.Link.{put_vertex, new_vertex, new_arc, new_edge, connect, set_face, ring}
 use Rattle.rules.specs.Insert.{new_face}
 use Rattle.rules.specs.Records.{arc_name, key_name, arc_record, face_record}
@@ -20,7 +20,6 @@ use Rattle.rules.specs.Sound.{sound}
 use Rattle.rules.specs.Call.{work}
 use Rattle.proved.specs.Demand.{Holds}
 use Rattle.proved.specs.Facts.{SoundFacts, RingFacts, IsVertex, IsArc, IsEdge, IsFace}
-use Rattle.proved.proofs.Rows.{in_table}
 use Rattle.proved.proofs.Around.{has-place}
 use Rattle.proved.proofs.Clauses.{facts}
 use Rattle.kept.specs.Frame.{ThreeCounters}
@@ -28,7 +27,7 @@ use Rattle.kept.specs.Reaches.{KeepsEnds, KeepsKeyAndPosition, SameRing}
 use Rattle.makers.specs.Makers.{ruled}
 use Rattle.kept.specs.Local.{FacesSince}
 use Rattle.kept.specs.Unreached.{KeepsArc, KeepsFace, KeepsRing}
-use Rattle.kept.proofs.Cells.{put_row-rows, put_row-other, row_other, put-other-cell}
+use Rattle.kept.proofs.Cells.{put_row-other, put-other-cell}
 use Rattle.kept.proofs.Free.{free-differs}
 use Rattle.kept.proofs.Rings.{first_holds, ring-same}
 use Rattle.kept.proofs.Remove.{ring-place-holds}

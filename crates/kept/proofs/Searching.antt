@@ -1,22 +1,22 @@
 -- Lists searched before anything is changed (makers/specs/Search): wherever what was found still tells of the mesh, the exterior by it is rule 5's
 -- exterior by the lists. A search may go on for as many arcs as there are rows: it finds nothing beyond as many as there are arcs, which is where
 -- a list ends. So the makers of the code are like the rules.
-use Prim.Native.Nat.{ℕ, zero, suc, ◌+◌, ◌≤◌, ◌<◌, zero-le, suc-le-suc}
+use Prim.Native.Nat.{ℕ, zero, suc, ◌+◌, ◌≤◌, ◌<◌}
 use native.Mathlib.Omega.{arith}
 use native.Mathlib.Nat.{le_of_suc-le-suc, not-suc-le-zero}
 use mathlib.Core.Path.{◌≡◌, refl, ap, sym, subst, ◌∙◌}
-use mathlib.Core.Bool.{Bool, true, false, not, ◌&&◌, ◌||◌, cond}
+use mathlib.Core.Bool.{Bool, true, false, not, ◌&&◌, cond}
 use mathlib.Core.List.{List, [], ◌∷◌, map}
 use mathlib.Core.Logic.{◌⊎◌, inl, inr}
 use lib.ListN.{length, get_or}
 use lib.Dec.{T, eqb, eqb→eq}
-use Rattle.rules.specs.Table.{Table, cell, put, there, used, count, up_to, after, or_else, has, distinct, sum_below}
-use Rattle.rules.specs.Mesh.{Mesh, with_arcs, next, previous, face, leading, opposite, opposite_of}
-use Rattle.rules.specs.Link.{connect, walk, turn, turn_in, outgoing, arc_count}
+use Rattle.rules.specs.Table.{Table, cell, put, there, used, count, up_to, after, has, distinct}
+use Rattle.rules.specs.Mesh.{Mesh, face, leading, opposite, opposite_of}
+use Rattle.rules.specs.Link.{connect, walk, turn, outgoing, arc_count}
 use Rattle.rules.specs.Insert.{arc_at, faceless_in, lists_of, exterior_at, exterior}
 use Rattle.rules.proofs.Counts.{bit, count-le}
-use Rattle.rules.proofs.Sums.{or_cases, or_l, or_r, not_T, sum-list, count-sum}
-use Rattle.proved.proofs.Rows.{same-T, there-row, in_table, T_true, T_false}
+use Rattle.rules.proofs.Sums.{or_cases, or_l, or_r, sum-list, count-sum}
+use Rattle.proved.proofs.Rows.{same-T, there-row, in_table}
 use Rattle.proved.proofs.Totals.{sum-le, bit_le}
 use Rattle.makers.specs.Search.{held_in, first_free, list_from, out_from, back_from, Sought, sought_for, exterior_sought_at, exterior_sought}
 use Rattle.makers.specs.Makers.{StillTells, LikeRules, searching}

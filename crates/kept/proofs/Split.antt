@@ -39,7 +39,7 @@ use Rattle.kept.specs.Suffices.{Tally, Within}
 use Rattle.kept.specs.Local.{FacesSince}
 use Rattle.kept.proofs.Base.{but-rings}
 use Rattle.kept.proofs.Counted.{met}
-use Rattle.kept.proofs.Find.{Between, find-back, arc-back, arc-some}
+use Rattle.kept.proofs.Find.{Between, find-back, arc-back}
 use Rattle.kept.proofs.Opposite.{found-is}
 use Rattle.kept.proofs.Tells.{SearchedIn, searched-here, on-at, at_on, on-either}
 use Rattle.kept.proofs.Spared.{spared-onto, same-ring}

@@ -12,7 +12,7 @@ use lib.ListN.{length}
 use lib.Dec.{T, eqb, eqb→eq}
 use borrow.Author.Tests.{ne_eqb}
 use Rattle.rules.specs.Table.{Table, cell, up_to, free_row, has}
-use Rattle.rules.specs.Mesh.{Mesh, source, dest, face, opposite, opposite_of}
+use Rattle.rules.specs.Mesh.{Mesh, face, opposite, opposite_of}
 use Rattle.rules.specs.Link.{turn_in}
 use Rattle.rules.specs.Insert.{arc_at, interior, new_face}
 use Rattle.rules.specs.Call.{insert_need}
@@ -22,10 +22,9 @@ use Rattle.proved.proofs.Rows.{same-T}
 use Rattle.makers.specs.Search.{arcs_on, held_in}
 use Rattle.makers.specs.Makers.{StillTells}
 use Rattle.kept.specs.Frame.{AllButRings, ThreeCounters, Met}
-use Rattle.kept.specs.Perimeter.{Perimeter, corner, following, Grown, Inside}
-use Rattle.kept.proofs.Find.{Between}
-use Rattle.kept.proofs.Opposite.{ends-opposite, opposite-is, found-is}
-use Rattle.kept.proofs.Interior.{pair-arc, inside}
+use Rattle.kept.specs.Perimeter.{Perimeter, corner, Grown, Inside}
+use Rattle.kept.proofs.Opposite.{ends-opposite, opposite-is}
+use Rattle.kept.proofs.Interior.{inside}
 use Rattle.kept.proofs.NewRing.{among}
 use Rattle.kept.proofs.Face.{new-face-is}
 use Rattle.kept.proofs.Insert.{with_edges, edges-up, perimeter-up, room-up, new_faces, new_counters, faces-took, result, edges-pair-before, edges-pair-after}

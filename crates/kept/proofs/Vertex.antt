@@ -1,5 +1,5 @@
 -- A vertex insert: what it changes, and that it keeps a mesh sound. So it is never answered with 8.
-use Prim.Native.Nat.{ℕ, zero, suc, ◌≤◌, ◌<◌}
+use Prim.Native.Nat.{ℕ, suc, ◌≤◌, ◌<◌}
 use native.Mathlib.Omega.{arith}
 use native.Mathlib.Decide.{ℕ_discrete}
 use mathlib.Core.Path.{◌≡◌, refl, ap, sym, subst, ◌∙◌}

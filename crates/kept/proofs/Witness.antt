@@ -25,7 +25,7 @@ use Rattle.proved.proofs.Reached.{none-there}
 use Rattle.kept.specs.Reaches.{NoArcAt}
 use Rattle.makers.specs.Makers.{Makers, by_lists, LikeRules, work_by}
 use Rattle.kept.specs.Suffices.{Suffices}
-use Rattle.proved.specs.Demand.{Made, made, after_call, after_calls, reached, three_apart}
+use Rattle.proved.specs.Demand.{Made, after_call, after_calls, reached, three_apart}
 
 -- an empty mesh of one vertex row, without its counters
 abbrev uncounted : Mesh

@@ -3,13 +3,12 @@ use Prim.Native.Nat.{ℕ, zero, suc, ◌+◌, ◌-◌, ◌<◌}
 use native.Mathlib.Omega.{arith}
 use native.Mathlib.Decide.{ℕ_discrete}
 use mathlib.Core.Path.{◌≡◌, refl, ap, sym, ◌∙◌}
-use mathlib.Core.Bool.{true, ◌||◌}
+use mathlib.Core.Bool.{true}
 use mathlib.Core.List.{List}
 use lib.ListN.{length, get_or, set}
 use lib.Seq.{get_or-set_same, get_or-set_other}
-use lib.Dec.{eqb, eqb→eq}
+use lib.Dec.{eqb→eq}
 use borrow.Author.Tests.{ne_eqb, le-ltb}
-use Rattle.rules.specs.Table.{all_below}
 use Rattle.rules.proofs.Sums.{all-at, or_cases, or_l, or_r}
 use Rattle.proved.proofs.Rows.{T_true, true-T, same-T, all_from}
 use Rattle.names.specs.Slots.{passed_by, slot_of, slot_after, name_of, probe, look_in, finds, Seat}

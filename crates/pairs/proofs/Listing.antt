@@ -5,7 +5,7 @@ use native.Mathlib.Omega.{arith}
 use native.Mathlib.Decide.{ℕ_discrete}
 use borrow.Author.Count.{below_none, below_more}
 use borrow.Author.Tests.{eq-eqb, ne_eqb}
-use mathlib.Core.Path.{◌≡◌, refl, ap, sym, ◌∙◌, subst}
+use mathlib.Core.Path.{◌≡◌, ap, sym, ◌∙◌, subst}
 use mathlib.Core.Bool.{Bool, true, false, cond}
 use mathlib.Core.List.{List, [], ◌∷◌, ◌++◌}
 use lib.ListN.{length, get_or, set, take, length-append, get_or-append}
@@ -13,7 +13,7 @@ use lib.Seq.{get_or-set_same, get_or-set_other}
 use Rattle.rules.specs.Table.{Table, cell, has, unused, or_else}
 use Rattle.tables.proofs.Runs.{over-run}
 use Rattle.pairs.specs.Pairs.{mark_count, NoMarks}
-use Rattle.pairs.specs.Near.{is_marked, Rising, Listing, Near, Passable, Onward, ListedTo, Chained}
+use Rattle.pairs.specs.Near.{is_marked, Rising, Near, Passable, Onward, ListedTo, Chained}
 use Rattle.pairs.specs.declared.near.Nearby.{Nearby}
 use Rattle.pairs.proofs.Filled.{some-link}
 use Rattle.pairs.proofs.Has.{has_last, has_left, at_place}

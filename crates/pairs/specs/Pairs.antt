@@ -1,5 +1,5 @@
 -- The arcs of a perimeter's pairs, and the steps by which one pass over the arc table finds them.
-use Rattle.std.specs.Prelude.{ℕ, ◌+◌, ◌%◌, ◌≤◌, ◌<◌, ◌≡◌, Bool, true, false, ◌&&◌, ◌||◌, cond, List, [], ◌∷◌, ◌++◌, length, get_or, set, replicate, eqb}
+use Rattle.std.specs.Prelude.{ℕ, ◌%◌, ◌≤◌, ◌<◌, ◌≡◌, Bool, true, false, ◌&&◌, ◌||◌, cond, List, [], ◌∷◌, ◌++◌, length, get_or, set, replicate, eqb}
 use Rattle.rules.specs.Table.{Table, some_below, up_to, after, or_else}
 use Rattle.rules.specs.Mesh.{arc_between}
 

@@ -1,12 +1,12 @@
 -- A list of at most 64 links as the code holds it: what is read at a place, and the list read back.
-use Prim.Native.Nat.{ℕ, zero, suc, ◌+◌, ◌-◌, ◌≤◌, ◌<◌, min, zero-le, suc-le-suc}
+use Prim.Native.Nat.{ℕ, zero, suc, ◌≤◌, ◌<◌}
 use native.Mathlib.Nat.{le_of_suc-le-suc, not-suc-le-zero}
 use native.Mathlib.Omega.{arith}
 use native.Mathlib.Decide.{dec_lt}
 use mathlib.Core.Path.{◌≡◌, refl, ap, sym, ◌∙◌}
 use mathlib.Core.List.{List, [], ◌∷◌, ◌++◌}
-use lib.ListN.{length, get_or, take, replicate, length-append, length-replicate, length-take, get_or-replicate, get_or-append, get_or-eq_default}
-use lib.Seq.{get_or-take, take-append-le, get_or-append-add}
+use lib.ListN.{length, get_or, take, replicate, length-append, length-replicate, length-take, get_or-eq_default}
+use lib.Seq.{get_or-take}
 use Rattle.rules.specs.Mesh.{places_of, links_of, list_of}
 
 -- past the end of a list of zeros, as on it, stands 0

@@ -1,16 +1,14 @@
 -- What holds of every public call, whatever it is lent and given: a refusal changes nothing and tells nothing but its number; both rooms
 -- end zero, or are untouched where the answer is 1; unsound tables are refused by number, by every call; the check answers 1, 3 or 0 exactly
 -- where it must; and no second outcome meets a call's statement. Assumes nothing.
-use Prim.Native.Nat.{ℕ, zero, suc, ◌+◌, ◌-◌}
-use mathlib.Core.Path.{◌≡◌, refl, ap, sym, subst, ◌∙◌}
-use mathlib.Core.Bool.{Bool, true, false, not, ◌&&◌, ◌||◌, cond, true≢false, false≢true}
-use mathlib.Core.List.{List, [], ◌∷◌, reverse}
+use Prim.Native.Nat.{ℕ, zero, suc, ◌-◌}
+use mathlib.Core.Path.{◌≡◌, refl, sym, ◌∙◌}
+use mathlib.Core.Bool.{Bool, true, false, not, ◌||◌, cond, true≢false, false≢true}
+use mathlib.Core.List.{List}
 use mathlib.Core.Logic.{◌↔◌}
-use lib.ListN.{length, get_or}
+use lib.ListN.{length}
 use lib.Dec.{eqb, ltb}
 use native.Mathlib.Omega.{arith}
-use Rattle.rules.specs.declared.Position.{Position}
-use Rattle.rules.specs.declared.Move.{Move}
 use Rattle.rules.specs.declared.Refusal.{Refusal}
 use Rattle.rules.specs.declared.Refusal.TheVariants.{Tables, Argument, TopologyMalformed, TopologyNotFound, TopologyConflict, ArityNonUniform, NoRoom, WouldBreak, SamePlace}
 use Rattle.rules.specs.declared.Answer.{Answer}
@@ -18,15 +16,15 @@ use Rattle.rules.specs.declared.Answer.TheVariants.{Key, Arc, Mark, Arity, Done,
 use Rattle.rules.specs.declared.Edit.{Edit}
 use Rattle.rules.specs.declared.Edit.TheVariants.{VertexInsert, FaceInsert, FaceRemove, FaceSplit, FacePoke, FaceBridge, FaceExtrude, ArcBridge, ArcExtrude}
 use Rattle.rules.specs.declared.Call.{Call}
-use Rattle.rules.specs.Table.{up_to, after, has, some_below}
-use Rattle.rules.specs.Mesh.{Mesh, Room, face, find_face, find_vertex, find_arc, mark}
-use Rattle.rules.specs.Link.{ring, ring_vertices, new_vertex, free_vertex, get_or_insert_edge}
+use Rattle.rules.specs.Table.{up_to, has, some_below}
+use Rattle.rules.specs.Mesh.{Mesh, Room, face, mark}
+use Rattle.rules.specs.Link.{ring, ring_vertices}
 use Rattle.rules.specs.Step.{Step, step, stops, told, accepted, number_of, and_then, answering, checked}
-use Rattle.rules.specs.Insert.{malformed, has_hair, has_face, conflict, insert_checks, insert_work, insert_face, lists_of, put_face}
-use Rattle.rules.specs.Edit.{known, remove, remove_work, place, ring_distance, half, held_by_other, corners, split_checks, split_work, poke_work, arc_bridge_checks, arc_bridge_work, arc_bridge, bridge_checks, bridge_work}
-use Rattle.rules.specs.Extrude.{Copies, copies, wall, extrude_work, arc_extrude_checks, arc_extrude_work}
+use Rattle.rules.specs.Insert.{malformed, has_hair, has_face, conflict, insert_checks, insert_work, insert_face}
+use Rattle.rules.specs.Edit.{known, remove_work, place, ring_distance, half, held_by_other, corners, split_checks, split_work, poke_work, arc_bridge_checks, arc_bridge_work, arc_bridge, bridge_checks, bridge_work}
+use Rattle.rules.specs.Extrude.{extrude_work, arc_extrude_checks, arc_extrude_work}
 use Rattle.rules.specs.Sound.{sound}
-use Rattle.rules.specs.Call.{Outcome, outcome, ready, zeroed, given, checks, moves_finite, room_for, need, work, last_step, worked, decided, kept, called, by_keys, arc_by_keys, face_arity, finished, check_mesh}
+use Rattle.rules.specs.Call.{Outcome, outcome, ready, zeroed, given, checks, moves_finite, room_for, need, work, last_step, worked, decided, kept, called, face_arity, finished, check_mesh}
 
 -- ---- answers
 

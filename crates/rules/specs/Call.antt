@@ -1,8 +1,7 @@
 -- The public calls: the order of answers, the needs, and what each call answers and leaves, for every input.
-use Rattle.std.specs.Prelude.{ℕ, zero, suc, ◌+◌, ◌-◌, ◌*◌, Bool, true, false, not, ◌&&◌, ◌||◌, cond, List, [], ◌∷◌, map, length, get_or, replicate, eqb, ltb, leb}
+use Rattle.std.specs.Prelude.{ℕ, ◌+◌, ◌-◌, ◌*◌, Bool, true, not, ◌&&◌, cond, List, [], ◌∷◌, map, length, get_or, replicate, eqb, leb}
 use Rattle.rules.specs.declared.Position.{Position}
 use Rattle.rules.specs.declared.Move.{Move}
-use Rattle.rules.specs.declared.Refusal.{Refusal}
 use Rattle.rules.specs.declared.Refusal.TheVariants.{Tables, Argument, TopologyMalformed, TopologyNotFound, NoRoom, WouldBreak}
 use Rattle.rules.specs.declared.Answer.{Answer}
 use Rattle.rules.specs.declared.Answer.TheVariants.{Key, Arity, Done, Refused}
@@ -10,7 +9,7 @@ use Rattle.rules.specs.declared.Edit.{Edit}
 use Rattle.rules.specs.declared.Edit.TheVariants.{VertexInsert, FaceInsert, FaceRemove, FaceSplit, FacePoke, FaceBridge, FaceExtrude, ArcBridge, ArcExtrude}
 use Rattle.rules.specs.declared.Call.{Call}
 use Rattle.rules.specs.Table.{count, every, unused, sum_below}
-use Rattle.rules.specs.Mesh.{Mesh, mesh, Room, room, ring_limit, key_limit, source, dest, find_vertex, find_face, find_arc, vertex_kind, edge_kind, face_kind, next_key}
+use Rattle.rules.specs.Mesh.{Mesh, Room, room, ring_limit, key_limit, find_vertex, find_face, find_arc, vertex_kind, edge_kind, face_kind, next_key}
 use Rattle.rules.specs.Point.{zero_float, finite_position, finite_move}
 use Rattle.rules.specs.Link.{ring, ring_vertices, new_vertex}
 use Rattle.rules.specs.Step.{Step, step, stops, accepted}

@@ -1,6 +1,6 @@
 -- The starred corners of document 01, asked of the public calls on small tables, as one list; what they are to answer stands beside it.
 use Prim.Native.String.{String}
-use Rattle.std.specs.Prelude.{ℕ, ◌+◌, ◌-◌, Bool, true, false, cond, List, [], ◌∷◌, ◌++◌, map, length, get_or, take}
+use Rattle.std.specs.Prelude.{ℕ, List, [], ◌∷◌, map, take}
 use Rattle.rules.specs.declared.Refusal.TheVariants.{Argument}
 use Rattle.rules.specs.declared.Answer.{Answer}
 use Rattle.rules.specs.declared.Answer.TheVariants.{Refused}
@@ -10,7 +10,7 @@ use Rattle.rules.specs.Link.{ring}
 use Rattle.rules.specs.Step.{told}
 use Rattle.rules.specs.Call.{call, called, arc_by_keys}
 use Rattle.rules.specs.Records.{arc_record}
-use Rattle.rules.specs.Script.{Text, bytes, Line, unreadable, says, line_in, lines_of, empty_room, empty_mesh, State, state, after_lines}
+use Rattle.rules.specs.Script.{Text, bytes, Line, unreadable, says, line_in, lines_of, empty_room, empty_mesh, state, after_lines}
 
 -- ---- scripts on small tables
 

@@ -1,12 +1,11 @@
 -- The records as text, in the form in which the comparison with the Rust prints them: a line for each record, in key order,
 -- links by keys, `-` for none (two for an arc), coordinates as their 64 bits; last the counters.
 use Prim.Native.String.{String}
-use Rattle.std.specs.Prelude.{ℕ, zero, suc, ◌+◌, ◌-◌, ◌/◌, ◌%◌, Bool, true, false, cond, List, [], ◌∷◌, ◌++◌, ltb, Float}
+use Rattle.std.specs.Prelude.{ℕ, zero, suc, ◌+◌, ◌/◌, ◌%◌, cond, List, [], ◌∷◌, ◌++◌, ltb, Float}
 use Rattle.std.specs.Float.{binary64}
 use Rattle.std.specs.Float.Ieee.{to_bits}
-use Rattle.rules.specs.Mesh.{Mesh}
 use Rattle.rules.specs.Records.{VertexRecord, ArcRecord, EdgeRecord, FaceRecord, Records, records}
-use Rattle.rules.specs.Script.{Text, bytes, space, newline, digit_zero, decimal, spaced, State, after_script, checked_end}
+use Rattle.rules.specs.Script.{Text, bytes, newline, digit_zero, spaced, after_script, checked_end}
 
 -- ---- words, each after a space
 

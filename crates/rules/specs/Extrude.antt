@@ -1,5 +1,5 @@
 -- Rule 10 of document 01: extrude and arc extrude.
-use Rattle.std.specs.Prelude.{ℕ, zero, suc, ◌+◌, ◌-◌, Bool, true, false, not, ◌&&◌, ◌||◌, cond, List, [], ◌∷◌, ◌++◌, length, get_or, eqb}
+use Rattle.std.specs.Prelude.{ℕ, Bool, not, cond, List, [], ◌∷◌, ◌++◌, length, get_or, eqb}
 use Rattle.rules.specs.declared.Position.{Position}
 use Rattle.rules.specs.declared.Move.{Move}
 use Rattle.rules.specs.declared.Answer.{Answer}
@@ -9,7 +9,7 @@ use Rattle.rules.specs.Table.{up_to, after, every}
 use Rattle.rules.specs.Mesh.{Mesh, source, dest, face, find_arc, vertex_kind, face_kind, next_key}
 use Rattle.rules.specs.Point.{position_at, moved, finite_position}
 use Rattle.rules.specs.Link.{ring_vertices, free_vertex, new_vertex, get_or_insert_edge}
-use Rattle.rules.specs.Step.{Step, step, and_then, answering}
+use Rattle.rules.specs.Step.{Step, and_then, answering}
 use Rattle.rules.specs.Insert.{insert_face}
 use Rattle.rules.specs.Edit.{remove, arc_bridge}
 

@@ -1,12 +1,12 @@
 -- Rules 1 to 4 of document 01: vertices, links, walks, edges.
-use Rattle.std.specs.Prelude.{ℕ, zero, suc, ◌+◌, ◌-◌, Bool, true, false, not, ◌&&◌, ◌||◌, cond, List, [], ◌∷◌, map, length, get_or, set, eqb}
+use Rattle.std.specs.Prelude.{ℕ, zero, suc, cond, List, [], ◌∷◌, map, eqb}
 use Rattle.rules.specs.declared.Position.{Position}
 use Rattle.rules.specs.declared.Vertex.{Vertex}
 use Rattle.rules.specs.declared.Ended.{Ended}
 use Rattle.rules.specs.declared.Ended.TheVariants.{Closed, Open, Cut}
 use Rattle.rules.specs.declared.Walk.{Walk}
-use Rattle.rules.specs.Table.{Table, cell, put, put_row, free_row, count, used, up_to}
-use Rattle.rules.specs.Mesh.{Mesh, mesh, with_arcs, ring_limit, source, dest, next, previous, face, edge, leading, face_arc, opposite_of, opposite, key_at, find_arc, vertex_kind, edge_kind, next_key, one_up, counted, links_of}
+use Rattle.rules.specs.Table.{Table, cell, put, put_row, free_row, count, used}
+use Rattle.rules.specs.Mesh.{Mesh, mesh, with_arcs, ring_limit, dest, next, leading, face_arc, opposite_of, opposite, key_at, find_arc, vertex_kind, edge_kind, next_key, one_up, counted, links_of}
 use Rattle.rules.specs.Point.{row_of, position_at}
 
 -- ---- rule 1: vertices

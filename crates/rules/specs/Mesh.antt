@@ -1,7 +1,7 @@
 -- The tables of a mesh as one value, the names of their cells, the limits, and lookup by key.
-use Rattle.std.specs.Prelude.{ℕ, zero, suc, ◌+◌, ◌-◌, ◌*◌, Bool, true, false, not, ◌&&◌, ◌||◌, cond, List, [], ◌∷◌, ◌++◌, length, get_or, set, take, replicate, Float, eqb, ltb, leb}
+use Rattle.std.specs.Prelude.{ℕ, ◌+◌, ◌-◌, Bool, ◌&&◌, cond, List, [], ◌++◌, length, get_or, set, take, replicate, Float, eqb}
 use Rattle.rules.specs.declared.Links.{Links}
-use Rattle.rules.specs.Table.{Table, cell, put, first_row, link_into, unused, used}
+use Rattle.rules.specs.Table.{Table, cell, first_row, link_into, used}
 
 -- vertices: key + 1, leading arc. positions: x, y, z of the vertex in the same row.
 -- arcs: source, destination (vertices), next, previous (arcs), face, edge. edges: key + 1, the arc it names, that arc's opposite.

@@ -1,6 +1,6 @@
 -- The records of a mesh: what its rows say once links are read as keys, in key order. Rows are not told apart here:
 -- two meshes hold the same records exactly where these are equal.
-use Rattle.std.specs.Prelude.{ℕ, ◌+◌, ◌-◌, Bool, true, false, not, ◌&&◌, ◌||◌, cond, List, [], ◌∷◌, map, length, get_or, eqb, ltb}
+use Rattle.std.specs.Prelude.{ℕ, ◌+◌, Bool, ◌&&◌, ◌||◌, cond, List, [], ◌∷◌, map, eqb, ltb}
 use Rattle.rules.specs.declared.Position.{Position}
 use Rattle.rules.specs.Table.{Table, there}
 use Rattle.rules.specs.Mesh.{Mesh, source, dest, next, previous, face, edge, leading, edge_arc, face_arc, mark, key_at}

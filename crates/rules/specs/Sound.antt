@@ -1,9 +1,8 @@
 -- "Sound means": one definition for each phrase of that paragraph of document 01, in its order, and the limits.
-use Rattle.std.specs.Prelude.{ℕ, zero, suc, ◌+◌, ◌-◌, ◌*◌, Bool, true, false, not, ◌&&◌, ◌||◌, cond, List, [], ◌∷◌, map, length, get_or, T, eqb, ltb, leb, Float}
-use Rattle.std.specs.Float.{nan}
+use Rattle.std.specs.Prelude.{ℕ, ◌-◌, ◌*◌, Bool, true, false, not, ◌&&◌, ◌||◌, cond, List, [], ◌∷◌, map, length, get_or, T, eqb, ltb, leb}
 use Rattle.rules.specs.declared.Ended.{Ended}
 use Rattle.rules.specs.declared.Ended.TheVariants.{Closed, Open, Cut}
-use Rattle.rules.specs.Table.{Table, cell, count, every, each_link, each_used, there, unused, used, has, distinct}
+use Rattle.rules.specs.Table.{Table, every, each_link, each_used, there, unused, used, has, distinct}
 use Rattle.rules.specs.Mesh.{Mesh, vertex_limit, edge_limit, face_limit, ring_limit, source, dest, next, previous, face, edge, leading, edge_arc, edge_other, face_arc, key_of, find_arc, vertex_kind, edge_kind, face_kind, next_key}
 use Rattle.rules.specs.Point.{finite_row, zero_position_row}
 use Rattle.rules.specs.Link.{ring, ring_ended}

@@ -6,8 +6,8 @@ use native.Mathlib.Nat.{not-suc-le-zero, le_of_suc-le-suc}
 use native.Mathlib.Numerals.{add-one}
 use native.Mathlib.Decide.{dec_le}
 use native.Mathlib.Omega.{arith}
-use lib.ListN.{length, set, get_or, take, drop, replicate, drop_of_length-le, length-append, length-take, length-drop}
-use lib.Seq.{take_all, take_at, set-set, get_or-set_same}
+use lib.ListN.{length, set, get_or, take, drop, replicate, drop_of_length-le}
+use lib.Seq.{take_all, set-set, get_or-set_same}
 use Rattle.tables.specs.Sets.{over}
 
 module _ {A : Type 0} where

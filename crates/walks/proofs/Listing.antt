@@ -1,13 +1,12 @@
 -- A list of links built place by place, and read: the laws for every loop over such a list.
-use Prim.Native.Nat.{ℕ, zero, suc, ◌+◌, ◌-◌, ◌≤◌, ◌<◌, min}
-use native.Mathlib.Nat.{not-suc-le-zero, le_of_suc-le-suc}
+use Prim.Native.Nat.{ℕ, ◌+◌, ◌≤◌, ◌<◌, min}
 use native.Mathlib.Numerals.{add-one}
 use native.Mathlib.Omega.{arith}
 use native.Mathlib.Decide.{dec_lt, ℕ_discrete}
 use mathlib.Core.Bool.{true, false}
 use mathlib.Core.Path.{◌≡◌, refl, ap, sym, ◌∙◌}
 use mathlib.Core.List.{List, [], ◌∷◌, ◌++◌, map, map-append}
-use lib.ListN.{length, get_or, take, set, length-set, length-append, length-map, length-take, get_or-eq_default, get_or-append}
+use lib.ListN.{length, get_or, take, set, length-set, length-append, length-map, get_or-eq_default, get_or-append}
 use lib.Seq.{get_or-set_same, get_or-set_other, get_or-take, take-suc, take_all, length-take-le, ext_get_or}
 use Rattle.rules.specs.declared.Links.{Links}
 use Rattle.rules.specs.Mesh.{places_of, links_of, list_of}

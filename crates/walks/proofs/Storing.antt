@@ -1,11 +1,10 @@
 -- A walk stored as it is taken, into 64 places: what a loop keeps, and what it has at each of its ends.
 use Prim.Native.Nat.{ℕ, zero, suc, ◌+◌, ◌-◌, ◌≤◌, ◌<◌}
-use native.Mathlib.Nat.{not-suc-le-zero}
 use native.Mathlib.Omega.{arith}
 use native.Mathlib.Decide.{dec_lt}
 use mathlib.Core.Path.{◌≡◌, refl, ap, sym, ◌∙◌}
-use mathlib.Core.Bool.{true, false, cond}
-use mathlib.Core.List.{List, [], ◌∷◌, ◌++◌}
+use mathlib.Core.Bool.{cond}
+use mathlib.Core.List.{List}
 use lib.ListN.{length, get_or, take, set, replicate, length-set, length-replicate, get_or-eq_default}
 use lib.Seq.{get_or-set_other, get_or-take, length-take-le, ext_get_or}
 use lib.Dec.{eqb}

@@ -1,6 +1,5 @@
 -- `lists::from_keys` meets its contract. The loop keeps the places of as many keys as it put in. Assumes nothing.
 use borrow.Author.Rules.{rules}
-use Prim.Native.Nat.{◌-◌}
 use native.Mathlib.Omega.{arith}
 use mathlib.Core.Path.{◌≡◌, refl}
 use Rattle.rules.specs.Mesh.{places_of}

@@ -1,6 +1,5 @@
 -- `lists::item` meets its contract. A law of Laws for each way out. Assumes nothing.
 use borrow.Author.Rules.{rules}
-use Prim.Native.Nat.{◌-◌}
 use mathlib.Core.Path.{sym, ◌∙◌}
 use Rattle.lists.proofs.Laws.{item_in, item-past}
 use Rattle.lists.proofs.item.Goals as goal

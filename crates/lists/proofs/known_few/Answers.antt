@@ -1,5 +1,4 @@
 -- `lists::known_few` meets its contract. As many as its length says, of 64 places. Assumes nothing.
-use Prim.Native.Nat.{◌-◌}
 use Rattle.lists.proofs.Laws.{list-few}
 use Rattle.lists.proofs.known_few.Goals as goal
 

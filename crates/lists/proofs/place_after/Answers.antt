@@ -1,5 +1,4 @@
 -- `lists::place_after` meets its contract. By the test of the code. Assumes nothing.
-use Prim.Native.Nat.{◌-◌}
 use borrow.Author.Tests.{eq-eqb, ne_eqb}
 use Rattle.lists.proofs.place_after.Goals as goal
 

@@ -1,5 +1,4 @@
 -- `lists::size` meets its contract. As many as its length says, of 64 places. Assumes nothing.
-use Prim.Native.Nat.{◌-◌}
 use Rattle.lists.proofs.Laws.{list-size}
 use Rattle.lists.proofs.size.Goals as goal
 

@@ -1,5 +1,4 @@
 -- `lists::stands_from` meets its contract. The loop keeps that x stands from place i on if it stands from the place reached on. Assumes nothing.
-use Prim.Native.Nat.{◌-◌}
 use native.Mathlib.Omega.{arith}
 use mathlib.Core.Path.{refl, sym, ◌∙◌}
 use lib.ListN.{take, length-take}

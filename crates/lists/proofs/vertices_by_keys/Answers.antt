@@ -1,6 +1,5 @@
 -- `lists::vertices_by_keys` meets its contract. The loop keeps what was made of the keys passed by; laws of Listing. Assumes nothing.
 use borrow.Author.Rules.{rules}
-use Prim.Native.Nat.{◌-◌}
 use native.Mathlib.Omega.{arith}
 use mathlib.Core.Path.{◌≡◌, refl, ap}
 use lib.ListN.{length, get_or, take}

@@ -1,6 +1,5 @@
 -- `names::all_seated` meets its contract. The loop keeps that each row gone through is found by its name; laws of Seats, by `seated`. Assumes
 -- nothing.
-use Prim.Native.Nat.{◌-◌}
 use native.Mathlib.Omega.{arith}
 use mathlib.Core.Path.{sym, ◌∙◌}
 use Rattle.proved.proofs.Rows.{true-T}

@@ -1,6 +1,6 @@
 -- `names::seat` meets its contract. The loop keeps that, whatever is put into a free slot, the lookup of the name comes to the slot at hand; laws of
 -- Seats. Assumes nothing.
-use Prim.Native.Nat.{◌<◌, ◌-◌}
+use Prim.Native.Nat.{◌<◌}
 use Rattle.names.proofs.Seats.{Reach}
 use Rattle.names.proofs.seat.Given as goal
 

@@ -1,5 +1,5 @@
 -- `pairs::note` meets its contract. The loop keeps the arc noted at as many pairs as it passed; laws of Steps. Assumes nothing.
-use Prim.Native.Nat.{◌-◌, ◌<◌}
+use Prim.Native.Nat.{◌<◌}
 use native.Mathlib.Omega.{arith}
 use mathlib.Core.Path.{◌≡◌, refl, ◌∙◌}
 use lib.ListN.{length}
@@ -29,12 +29,13 @@ loop-i-preserved c =
     let next = note-next per a.s a.d a.x a.at.now c.loop-i.at i c.loop-i.invariant.1 in (
       search rules,
       elim c.if-s-from.branch [
-        then-s-from+then-leads_to w ↦
-          w.at-is ∙ note-here per a.s a.d a.x a.at.now c.loop-i.at i c.loop-i.invariant.1 w.or_else.result
+        | then-s-from+then-leads_to w ↦
+            w.at-is ∙ note-here per a.s a.d a.x a.at.now c.loop-i.at i c.loop-i.invariant.1 w.or_else.result
             (pair-starts a.per i a.s a.d on w.if-s-from.true w.leads_to.result w.leads_to.ensures ∙ w.if-leads_to.true) w.or_else.ensures
-      | then-s-from+else-leads_to w ↦
-          w.at-is ∙ next (pair-starts a.per i a.s a.d on w.if-s-from.true w.leads_to.result w.leads_to.ensures ∙ w.if-leads_to.false)
-      | else-s-from w ↦ w.at-is ∙ next (pair-elsewhere a.per i a.s a.d on w.if-s-from.false) ],
+        | then-s-from+else-leads_to w ↦
+            w.at-is ∙ next (pair-starts a.per i a.s a.d on w.if-s-from.true w.leads_to.result w.leads_to.ensures ∙ w.if-leads_to.false)
+        | else-s-from w ↦ w.at-is ∙ next (pair-elsewhere a.per i a.s a.d on w.if-s-from.false)
+      ],
     )
 
 pub returns : goal.returns

@@ -1,5 +1,5 @@
 -- `pairs::perimeter_arcs` meets its contract. The loop keeps what the rows passed by have told of each pair; laws of Pass. Assumes nothing.
-use Prim.Native.Nat.{◌+◌, ◌-◌}
+use Prim.Native.Nat.{◌+◌}
 use lib.ListN.{replicate}
 use Rattle.rules.specs.Mesh.{list_of}
 use Rattle.pairs.proofs.Pass.{pass-start, pass-run, pass-note, pass-end, pass-large}

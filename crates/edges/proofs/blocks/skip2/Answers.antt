@@ -1,5 +1,5 @@
 -- `edges::blocks::skip2` meets its contract. The loop keeps that the rows gone through are used; laws of Runs. Assumes nothing.
-use Prim.Native.Nat.{◌+◌, ◌-◌}
+use Prim.Native.Nat.{◌+◌}
 use Rattle.tables.proofs.Runs.{no_rows, join_runs}
 use borrow.Author.Rules.{rules}
 use Rattle.edges.proofs.blocks.skip2.Goals as goal

@@ -1,6 +1,6 @@
 -- `edges::blocks::used_block6` meets its contract. The loop keeps that, where all tests so far passed, the rows gone through are used; laws of
 -- Runs. Assumes nothing.
-use Prim.Native.Nat.{◌+◌, ◌-◌}
+use Prim.Native.Nat.{◌+◌}
 use native.Mathlib.Omega.{arith}
 use borrow.Author.Tests.{not-true}
 use Rattle.tables.proofs.Runs.{no_rows, one_more, block-of-eight}

@@ -1,5 +1,4 @@
 -- After i turns the faces of the first i arcs are cleared.
-use Prim.Native.Nat.{◌-◌}
 use mathlib.Core.Path.{◌≡◌}
 use native.Mathlib.Omega.{arith}
 use Rattle.rules.specs.Table.{up_to}

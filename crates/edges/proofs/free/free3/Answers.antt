@@ -1,5 +1,4 @@
 -- `edges::free::free3` meets its contract. The invariant: no row before i is unused. The measure is what is left of the table. Assumes nothing.
-use Prim.Native.Nat.{◌-◌}
 use mathlib.Core.List.{[]}
 use borrow.Author.Count.{below_more}
 use borrow.Author.Tests.{eq-eqb, ne_eqb}

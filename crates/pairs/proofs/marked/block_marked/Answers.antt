@@ -1,6 +1,6 @@
 -- `pairs::marked::block_marked` meets its contract. The loop keeps that, without a mark so far, no row gone through has one; laws of Runs
 -- and Blocks. Assumes nothing.
-use Prim.Native.Nat.{◌+◌, ◌-◌}
+use Prim.Native.Nat.{◌+◌}
 use native.Mathlib.Omega.{arith}
 use Rattle.tables.proofs.Runs.{no_rows, block-of-eight}
 use Rattle.pairs.proofs.Blocks.{one_more_lem}

@@ -1,5 +1,5 @@
 -- `pairs::marked::skip_rows` meets its contract. The loop keeps that no row gone through has a mark; laws of Runs. Assumes nothing.
-use Prim.Native.Nat.{◌+◌, ◌-◌}
+use Prim.Native.Nat.{◌+◌}
 use Rattle.tables.proofs.Runs.{no_rows, one-row, join_runs}
 use borrow.Author.Rules.{rules}
 use Rattle.pairs.proofs.marked.skip_rows.Goals as goal

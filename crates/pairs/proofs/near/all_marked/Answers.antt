@@ -1,6 +1,6 @@
 -- `pairs::near::all_marked` meets its contract. The loop keeps that every vertex passed by has a mark. Assumes nothing.
 use Rattle.pairs.proofs.Listing.{both}
-use Prim.Native.Nat.{ℕ, ◌-◌}
+use Prim.Native.Nat.{ℕ}
 use native.Mathlib.Omega.{arith}
 use mathlib.Core.Path.{◌≡◌, ap, sym, ◌∙◌}
 use mathlib.Core.List.{List}

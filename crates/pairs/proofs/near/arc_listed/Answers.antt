@@ -1,7 +1,6 @@
 -- `pairs::near::arc_listed` meets its contract. The loop keeps the least link among those passed by; laws of Lookup. Assumes nothing.
 use mathlib.Core.Path.{◌≡◌}
 use Rattle.pairs.proofs.Pass.{from-none}
-use Prim.Native.Nat.{◌-◌}
 use native.Mathlib.Omega.{arith}
 use lib.ListN.{take}
 use Rattle.pairs.proofs.Lookup.{all-early, least-read, least-is}

@@ -1,5 +1,4 @@
 -- `pairs::near::arcs_chained` meets its contract. The loop keeps at each pair passed by the least link that is chained; laws of Lookup. Assumes nothing.
-use Prim.Native.Nat.{◌-◌}
 use native.Mathlib.Omega.{arith}
 use mathlib.Core.Path.{◌≡◌}
 use lib.ListN.{take}

@@ -1,5 +1,5 @@
 -- `pairs::near::arcs_listed` meets its contract. The loop keeps at each pair the least link among those passed by; laws of Lookup. Assumes nothing.
-use Prim.Native.Nat.{◌-◌, ◌≤◌}
+use Prim.Native.Nat.{◌≤◌}
 use native.Mathlib.Omega.{arith}
 use mathlib.Core.Path.{◌≡◌, sym, ◌∙◌}
 use lib.ListN.{get_or, take}
@@ -49,12 +49,13 @@ loop-k-preserved c =
       search rules,
       sought-read arcs f t size.result near c.loop-k.k c.if-s-eq0.at
           (elim c.if-s-eq0.branch [
-            then-s-eq0+else-k-used w ↦
-              rw w.at-is (sought-skip arcs f t size.result list x c.loop-k.at c.loop-k.invariant.1 (λ i q ne e. ne (sym e ∙ sym s.ensures ∙ w.if-s-eq0.true)))
-          | else-s-eq0+then-seen-wide w ↦
-              rw w.at-is (sought-note arcs f t size.result list x c.loop-k.at c.loop-k.invariant.1 s.result w.cell6.result w.note_listed.new.at few s.ensures w.cell6.ensures w.if-s-eq0.false w.note_listed.ensures)
-          | else-s-eq0+else-seen-wide w ↦
-              rw w.at-is (sought-skip arcs f t size.result list x c.loop-k.at c.loop-k.invariant.1 (λ i q ne e. unmarked per s.result (rw (← c.mark.ensures, ← w.wide.ensures) w.if-seen-wide.false) i (omega (arith, size.ensures)) (s.ensures ∙ e ∙ item-is a.per i (omega (arith, size.ensures))))) ]),
+            | then-s-eq0+else-k-used w ↦
+                rw w.at-is (sought-skip arcs f t size.result list x c.loop-k.at c.loop-k.invariant.1 (λ i q ne e. ne (sym e ∙ sym s.ensures ∙ w.if-s-eq0.true)))
+            | else-s-eq0+then-seen-wide w ↦
+                rw w.at-is (sought-note arcs f t size.result list x c.loop-k.at c.loop-k.invariant.1 s.result w.cell6.result w.note_listed.new.at few s.ensures w.cell6.ensures w.if-s-eq0.false w.note_listed.ensures)
+            | else-s-eq0+else-seen-wide w ↦
+                rw w.at-is (sought-skip arcs f t size.result list x c.loop-k.at c.loop-k.invariant.1 (λ i q ne e. unmarked per s.result (rw (← c.mark.ensures, ← w.wide.ensures) w.if-seen-wide.false) i (omega (arith, size.ensures)) (s.ensures ∙ e ∙ item-is a.per i (omega (arith, size.ensures)))))
+          ]),
     )
 
 pub returns : goal.returns

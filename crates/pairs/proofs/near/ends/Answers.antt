@@ -1,5 +1,5 @@
 -- `pairs::near::ends` meets its contract. The loop keeps where the pairs passed by lead; a law of Lookup. Assumes nothing.
-use Prim.Native.Nat.{ℕ, ◌-◌, ◌<◌}
+use Prim.Native.Nat.{ℕ, ◌<◌}
 use native.Mathlib.Omega.{arith}
 use mathlib.Core.Path.{refl, ap, ◌∙◌}
 use lib.ListN.{length, get_or, length-set}

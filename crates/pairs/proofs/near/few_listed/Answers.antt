@@ -1,5 +1,5 @@
 -- `pairs::near::few_listed` meets its contract. The loop keeps at each pair the least link among those passed by; laws of Lookup. Assumes nothing.
-use Prim.Native.Nat.{◌+◌, ◌-◌, ◌≤◌}
+use Prim.Native.Nat.{◌+◌, ◌≤◌}
 use native.Mathlib.Omega.{arith}
 use mathlib.Core.Path.{◌≡◌, sym, ◌∙◌}
 use lib.ListN.{get_or, take}
@@ -44,12 +44,13 @@ loop-k-preserved c =
       next,
       sought-read arcs f t size near c.loop-k.k c.if-s-eq0.at
           (elim c.if-s-eq0.branch [
-            then-s-eq0+else-k-used w ↦
-              rw w.at-is (sought-skip arcs f t size list x c.loop-k.at c.loop-k.invariant.1 (λ i q ne e. ne (sym e ∙ sym s.ensures ∙ w.if-s-eq0.true)))
-          | else-s-eq0+then-of_four w ↦
-              rw w.at-is (sought-note arcs f t size list x c.loop-k.at c.loop-k.invariant.1 s.result w.cell6.result w.note_listed.new.at (omega arith) s.ensures w.cell6.ensures w.if-s-eq0.false w.note_listed.ensures)
-          | else-s-eq0+else-of_four w ↦
-              rw w.at-is (sought-skip arcs f t size list x c.loop-k.at c.loop-k.invariant.1 (λ i q ne e. w.of_four.ensures w.if-of_four.false i (omega arith) (s.ensures ∙ e))) ]),
+            | then-s-eq0+else-k-used w ↦
+                rw w.at-is (sought-skip arcs f t size list x c.loop-k.at c.loop-k.invariant.1 (λ i q ne e. ne (sym e ∙ sym s.ensures ∙ w.if-s-eq0.true)))
+            | else-s-eq0+then-of_four w ↦
+                rw w.at-is (sought-note arcs f t size list x c.loop-k.at c.loop-k.invariant.1 s.result w.cell6.result w.note_listed.new.at (omega arith) s.ensures w.cell6.ensures w.if-s-eq0.false w.note_listed.ensures)
+            | else-s-eq0+else-of_four w ↦
+                rw w.at-is (sought-skip arcs f t size list x c.loop-k.at c.loop-k.invariant.1 (λ i q ne e. w.of_four.ensures w.if-of_four.false i (omega arith) (s.ensures ∙ e)))
+          ]),
     )
 
 pub returns : goal.returns

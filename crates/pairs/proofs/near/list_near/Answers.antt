@@ -1,6 +1,6 @@
 -- `pairs::near::list_near` meets its contract. The loop keeps what stands in the list after the rows passed by; laws of Listing. Assumes nothing.
 use mathlib.Core.List.{[]}
-use Prim.Native.Nat.{◌+◌, ◌-◌}
+use Prim.Native.Nat.{◌+◌}
 use native.Mathlib.Nat.{le_refl}
 use native.Mathlib.Omega.{arith}
 use lib.ListN.{take}

@@ -1,5 +1,4 @@
 -- `pairs::near::mark` meets its contract. The loop keeps the marks of as many numbers as it passed. Assumes nothing.
-use Prim.Native.Nat.{◌-◌}
 use native.Mathlib.Omega.{arith}
 use mathlib.Core.Path.{◌≡◌, refl, sym}
 use lib.ListN.{length, get_or, take}

@@ -1,5 +1,5 @@
 -- `pairs::near::no_chains` meets its contract. The loop keeps that every remainder passed by has none. Assumes nothing.
-use Prim.Native.Nat.{ℕ, ◌-◌, ◌≤◌}
+use Prim.Native.Nat.{ℕ, ◌≤◌}
 use native.Mathlib.Omega.{arith}
 use mathlib.Core.Path.{◌≡◌, ◌∙◌}
 use lib.ListN.{get_or, set, length-set}

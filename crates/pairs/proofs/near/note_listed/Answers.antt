@@ -1,5 +1,4 @@
 -- `pairs::near::note_listed` meets its contract. The loop keeps the link noted at as many pairs as it passed; laws of Lookup. Assumes nothing.
-use Prim.Native.Nat.{◌-◌}
 use native.Mathlib.Omega.{arith}
 use mathlib.Core.Path.{◌≡◌}
 use Rattle.pairs.proofs.Lookup.{noted-start, noted_here, noted-starts, noted-leads}
@@ -20,10 +19,11 @@ loop-i-preserved c =
     let t = a.to.now in (
       search rules,
       elim c.if-s-from.branch [
-        then-s-from+then-d-to w ↦
-          rw w.at-is (noted_here f t a.s a.d a.x a.at.now i c.loop-i.at c.loop-i.invariant.1 w.lower.result w.if-s-from.true w.if-d-to.true w.lower.ensures)
-      | then-s-from+else-d-to w ↦ rw w.at-is (noted-leads f t a.s a.d a.x a.at.now i c.loop-i.at c.loop-i.invariant.1 w.if-s-from.true w.if-d-to.false)
-      | else-s-from w ↦ rw w.at-is (noted-starts f t a.s a.d a.x a.at.now i c.loop-i.at c.loop-i.invariant.1 w.if-s-from.false) ],
+        | then-s-from+then-d-to w ↦
+            rw w.at-is (noted_here f t a.s a.d a.x a.at.now i c.loop-i.at c.loop-i.invariant.1 w.lower.result w.if-s-from.true w.if-d-to.true w.lower.ensures)
+        | then-s-from+else-d-to w ↦ rw w.at-is (noted-leads f t a.s a.d a.x a.at.now i c.loop-i.at c.loop-i.invariant.1 w.if-s-from.true w.if-d-to.false)
+        | else-s-from w ↦ rw w.at-is (noted-starts f t a.s a.d a.x a.at.now i c.loop-i.at c.loop-i.invariant.1 w.if-s-from.false)
+      ],
     )
 
 pub returns : goal.returns

@@ -1,5 +1,4 @@
 -- `tables::rows::count_free2` meets its contract. The invariant: n of the rows before i count, and the rows from i on hold the rest. The measure is what is left of the table. Assumes nothing.
-use Prim.Native.Nat.{◌-◌}
 use mathlib.Core.List.{[]}
 use native.Mathlib.Omega.{arith}
 use borrow.Author.Rules.{rules}

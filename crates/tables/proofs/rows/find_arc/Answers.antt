@@ -1,5 +1,4 @@
 -- `tables::rows::find_arc` meets its contract. The invariant: no row before i joins a to b. The measure is what is left of the table. Assumes nothing.
-use Prim.Native.Nat.{◌-◌}
 use mathlib.Core.List.{[]}
 use lib.ListN.{get_or}
 use borrow.Author.Count.{below_none, below_more}

@@ -1,5 +1,4 @@
 -- `tables::rows::scan_key3` meets its contract. The invariant: no row before i has the key. The measure is what is left of the table. Assumes nothing.
-use Prim.Native.Nat.{◌-◌}
 use mathlib.Core.List.{[]}
 use mathlib.Core.Path.{sym, ◌∙◌}
 use borrow.Author.Count.{below_none, below_more}

@@ -1,5 +1,4 @@
 -- `tables::sets::copy_positions` meets its contract. The invariant: the first i rows are copied, and the rest is as it was. The measure is what is left to copy. Assumes nothing.
-use Prim.Native.Nat.{◌-◌}
 use mathlib.Core.List.{[]}
 use mathlib.Core.Path.{◌∙◌}
 use native.Mathlib.Omega.{arith}

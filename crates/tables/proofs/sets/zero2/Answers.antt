@@ -1,5 +1,4 @@
 -- `tables::sets::zero2` meets its contract. The invariant: the first i rows are zero, and the rest is as it was; at the start they were zero before. The measure is what is left of the table. Assumes nothing.
-use Prim.Native.Nat.{◌-◌}
 use mathlib.Core.List.{[], ◌∷◌}
 use mathlib.Core.Path.{refl, ◌∙◌}
 use lib.ListN.{length-set}

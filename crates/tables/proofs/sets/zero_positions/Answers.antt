@@ -1,5 +1,4 @@
 -- `tables::sets::zero_positions` meets its contract. The invariant: the first i rows are zero, and the rest is as it was. The measure is what is left of the table. Assumes nothing.
-use Prim.Native.Nat.{◌-◌}
 use mathlib.Core.List.{[], ◌∷◌}
 use mathlib.Core.Path.{◌∙◌}
 use lib.ListN.{length-set}

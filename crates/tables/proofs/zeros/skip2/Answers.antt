@@ -1,5 +1,5 @@
 -- `tables::zeros::skip2` meets its contract. The loop keeps that the rows gone through are zero; laws of Runs. Assumes nothing.
-use Prim.Native.Nat.{◌+◌, ◌-◌}
+use Prim.Native.Nat.{◌+◌}
 use Rattle.tables.proofs.Runs.{no_rows, join_runs}
 use borrow.Author.Rules.{rules}
 use Rattle.tables.proofs.zeros.skip2.Goals as goal

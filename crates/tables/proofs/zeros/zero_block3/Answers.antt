@@ -1,6 +1,6 @@
 -- `tables::zeros::zero_block3` meets its contract. The loop keeps that, where all tests so far passed, the rows gone through are zero; laws of
 -- Runs. Assumes nothing.
-use Prim.Native.Nat.{◌+◌, ◌-◌}
+use Prim.Native.Nat.{◌+◌}
 use native.Mathlib.Omega.{arith}
 use Rattle.tables.proofs.Runs.{no_rows, one_more, block-of-eight}
 use borrow.Author.Rules.{rules}

@@ -1,6 +1,5 @@
 -- `walks::rings::ring` meets its contract: the loop keeps `Going`, and each way out is one of its ends. Assumes nothing.
 use borrow.Author.Rules.{rules}
-use Prim.Native.Nat.{◌-◌}
 use mathlib.Core.Path.{◌∙◌}
 use Rattle.rules.specs.Table.{cell}
 use Rattle.walks.proofs.Storing.{going_start, going-none, going-cut, going-closed, going_on}
