@@ -7,7 +7,7 @@ use mathlib.Core.List.{List, [], ◌∷◌, ◌++◌}
 use lib.ListN.{length, take, drop, replicate, length-append, length-take, length-drop}
 use lib.Dec.{leb, leb→le}
 use lib.Ieee.Fits.{and_l, and_r}
-use Rattle.rules.specs.Mesh.{Mesh, mesh, Room, room}
+use Rattle.rules.specs.Mesh.{Mesh, Room, room}
 use Rattle.rules.specs.Point.{zero_float}
 use Rattle.rules.specs.Sound.{within_limits}
 use Rattle.rules.specs.Call.{room_enough, zeroed}

@@ -1,19 +1,19 @@
 -- A body in lent bytes, record after record, and the links of a kind, which are told by the tables alone.
-use Prim.Native.Nat.{ℕ, zero, suc, ◌+◌, ◌-◌, ◌*◌, ◌≤◌, ◌<◌}
+use Prim.Native.Nat.{ℕ, suc, ◌+◌, ◌-◌, ◌≤◌, ◌<◌}
 use native.Mathlib.Numerals.{add-one}
 use native.Mathlib.Omega.{arith}
 use mathlib.Core.Path.{◌≡◌, refl, ap, sym, ◌∙◌}
-use mathlib.Core.List.{List, [], ◌∷◌, ◌++◌, map}
-use lib.ListN.{length, get_or, take, drop, drop_of_length-le}
+use mathlib.Core.List.{List, [], ◌++◌, map}
+use lib.ListN.{length, get_or, drop, drop_of_length-le}
 use lib.Seq.{drop-cons}
 use lib.Ieee.{Float}
 use Rattle.rules.specs.Table.{Table}
 use Rattle.rules.specs.Mesh.{Mesh, mesh}
 use Rattle.rules.specs.Records.{arc_name, vertex_record, arc_record, edge_record, face_record, arc_before}
 use Rattle.rules.specs.Script.{Text}
-use Rattle.file.specs.File.{row_text, total, body_text, body_length}
+use Rattle.file.specs.File.{total, body_text, body_length}
 use Rattle.file.proofs.Cells.{row-length, body-space, body-none}
-use Rattle.file.proofs.Told.{links_in, links-few}
+use Rattle.file.proofs.Told.{links-few}
 use Rattle.orders.specs.declared.Kind.{Kind}
 use Rattle.orders.specs.declared.Kind.TheVariants.{Vertices, Arcs, Edges, Faces}
 use Rattle.orders.specs.Order.{tables, table_of, before_of, used_links, links_of}

@@ -1,14 +1,14 @@
 -- A record's cells as numbers of four bytes: a coordinate's 64 bits are two of them, the lower half first.
-use Prim.Native.Nat.{ℕ, zero, suc, ◌+◌, ◌*◌, ◌/◌, ◌%◌, ◌^◌, ◌≤◌, ◌<◌}
+use Prim.Native.Nat.{ℕ, zero, suc, ◌+◌, ◌*◌, ◌/◌, ◌%◌, ◌^◌, ◌<◌}
 use native.Mathlib.Nat.{pow-suc, mul_comm, mul_assoc}
 use native.Mathlib.Omega.{arith}
 use mathlib.Core.Path.{◌≡◌, refl, ap, sym, ◌∙◌}
-use mathlib.Core.List.{List, [], ◌∷◌, ◌++◌, append_assoc, append-nil}
+use mathlib.Core.List.{List, [], ◌∷◌, ◌++◌, append_assoc}
 use lib.Ieee.{Float, nan, binary64, to_bits}
 use Rattle.rules.specs.Script.{Text}
 use Rattle.rules.specs.declared.Position.{Position}
 use Rattle.rules.specs.Table.{Table, cell}
-use Rattle.rules.specs.Mesh.{Mesh, mesh, key_at}
+use Rattle.rules.specs.Mesh.{mesh, key_at}
 use Rattle.rules.specs.Point.{position_at}
 use Rattle.rules.specs.Records.{arc_name, key_name, vertex_record, arc_record, edge_record, face_record}
 use Rattle.file.specs.File.{cell_text, row_text, total, key_cell, vertex_cells, arc_cells, edge_cells, face_cells}

@@ -1,13 +1,13 @@
 -- Texts in lent bytes, one after the other: a number of four bytes, and numbers in a row.
-use Prim.Native.Nat.{ℕ, zero, suc, ◌+◌, ◌-◌, ◌*◌, ◌/◌, ◌%◌, ◌≤◌, ◌<◌}
+use Prim.Native.Nat.{ℕ, suc, ◌+◌, ◌*◌, ◌/◌, ◌%◌, ◌≤◌, ◌<◌}
 use native.Mathlib.Numerals.{add-one}
 use native.Mathlib.Omega.{arith}
 use mathlib.Core.Path.{◌≡◌, refl, ap, sym, ◌∙◌}
-use mathlib.Core.List.{List, [], ◌∷◌, ◌++◌, append_assoc, append-nil}
-use lib.ListN.{length, get_or, set, take, drop, length-set, length-append, drop_of_length-le}
+use mathlib.Core.List.{List, [], ◌∷◌, ◌++◌}
+use lib.ListN.{length, get_or, set, drop, length-set, drop_of_length-le}
 use lib.Seq.{sets, sets-eq, drop-cons}
 use Rattle.rules.specs.Script.{Text}
-use Rattle.file.specs.File.{cell_text, row_text, wrote}
+use Rattle.file.specs.File.{cell_text, wrote}
 use Rattle.file.proofs.Cells.{cell-length}
 use Rattle.writes.specs.Writing.{put_text, words_text}
 

@@ -1,13 +1,13 @@
 -- The whole file is the table of contents with the counters, and then the four bodies; how long it is; and what a mesh that the check does
 -- not refuse with 1 gives.
-use Prim.Native.Nat.{ℕ, zero, suc, ◌+◌, ◌-◌, ◌*◌, ◌≤◌, ◌<◌}
+use Prim.Native.Nat.{ℕ, ◌+◌, ◌*◌, ◌≤◌, ◌<◌}
 use native.Mathlib.Omega.{arith}
 use mathlib.Core.Path.{◌≡◌, refl, ap, sym, subst, ◌∙◌}
-use mathlib.Core.Bool.{Bool, true, false, not, cond}
+use mathlib.Core.Bool.{true, false}
 use mathlib.Core.List.{List, [], ◌∷◌, ◌++◌, map, append_assoc, append-nil}
 use lib.ListN.{length, get_or, drop, length-append, length-map}
 use lib.Seq.{get_or-drop}
-use lib.Dec.{T, eqb, ltb, leb, leb→le, eqb→eq}
+use lib.Dec.{T, eqb, leb, leb→le, eqb→eq}
 use lib.Ieee.{Float}
 use lib.Ieee.Fits.{and_l, and_r}
 use borrow.Author.Tests.{lt-ltb, le-ltb, not-false}
@@ -16,7 +16,7 @@ use Rattle.rules.specs.Mesh.{Mesh, mesh}
 use Rattle.rules.specs.Records.{vertex_record, arc_record, edge_record, face_record, records}
 use Rattle.rules.specs.Sound.{within_limits, sound}
 use Rattle.rules.specs.Script.{Text}
-use Rattle.file.specs.File.{Contents, FileWritten, cell_text, row_text, total, body_text, body_length, schema, counter_widths, places, bodies_text, head_length, file_text, vertex_cells, arc_cells, edge_cells, face_cells, contents_of, file_of, wrote, check_refuses, write_file}
+use Rattle.file.specs.File.{cell_text, row_text, total, body_text, body_length, schema, counter_widths, places, bodies_text, head_length, file_text, vertex_cells, arc_cells, edge_cells, face_cells, contents_of, file_of, wrote, check_refuses, write_file}
 use Rattle.file.proofs.Cells.{cell-length, body-length}
 use Rattle.file.proofs.Calls.{check-refuses}
 use Rattle.orders.specs.declared.Kind.{Kind}

@@ -4,7 +4,6 @@ use mathlib.Core.Bool.{cond}
 use mathlib.Core.List.{List, [], ◌∷◌, ◌++◌, map}
 use lib.ListN.{length, get_or, set}
 use lib.Dec.{ltb}
-use Rattle.rules.specs.Table.{Table}
 use Rattle.rules.specs.Mesh.{Mesh}
 use Rattle.rules.specs.Records.{vertex_record, arc_record, edge_record, face_record}
 use Rattle.rules.specs.Script.{Text}

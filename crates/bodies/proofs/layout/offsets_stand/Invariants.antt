@@ -1,0 +1,14 @@
+-- `bodies::layout::offsets_stand` meets its contract. The loop keeps whether the bodies that are left stand in place. Assumes nothing.
+use Prim.Native.Nat.{◌+◌, ◌-◌, ◌*◌, ◌≤◌}
+use mathlib.Core.Path.{◌≡◌}
+use lib.ListN.{drop}
+use Rattle.file.specs.File.{schema, placed}
+use Rattle.bodies.specs.Bodies.{entry}
+use Rattle.bodies.proofs.layout.offsets_stand.Given as goal
+
+abbrev pub invariant-loop-kind : goal.invariant-loop-kind
+invariant-loop-kind l =
+    (l.kind ≤ 4) × ((l.at ≤ 44 + l.kind * 137438953440) × (placed 44 schema l.text ≡ placed l.at (drop l.kind schema) (entry l.kind l.text)))
+
+abbrev pub decreases-loop-kind : goal.decreases-loop-kind
+decreases-loop-kind l = 4 - l.kind
