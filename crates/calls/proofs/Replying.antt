@@ -5,7 +5,7 @@ use Rattle.rules.specs.declared.Reply.{Reply}
 use Rattle.rules.specs.Mesh.{Mesh, Room}
 use Rattle.rules.specs.Step.{told}
 use Rattle.rules.specs.Call.{Outcome, outcome}
-use Rattle.calls.specs.Replied.{Shown, shown, replied}
+use Rattle.calls.specs.Replied.{shown, replied}
 
 pub replied-by : {o : Outcome} (a : Answer) (r : Reply) (m : Mesh) (one two : Room) → r ≡ told a → outcome a m one two ≡ o → shown r m one two ≡ replied o
 unfolding replied

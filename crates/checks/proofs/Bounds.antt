@@ -1,12 +1,11 @@
 -- A ring is no longer than its bound, so the list that the code holds is read back as it is.
-use Prim.Native.Nat.{ℕ, zero, suc, ◌+◌, ◌≤◌, ◌<◌, zero-le, suc-le-suc}
-use mathlib.Core.Path.{◌≡◌, refl, ap, sym, subst, ◌∙◌}
+use Prim.Native.Nat.{ℕ, zero, suc, ◌≤◌, zero-le, suc-le-suc}
+use mathlib.Core.Path.{◌≡◌}
 use mathlib.Core.Bool.{Bool, true, false, cond}
-use mathlib.Core.List.{List, [], ◌∷◌, map}
+use mathlib.Core.List.{List, []}
 use native.Mathlib.Omega.{arith}
 use lib.ListN.{length, length-map}
 use lib.Dec.{eqb}
-use Rattle.rules.specs.Table.{Table}
 use Rattle.rules.specs.Mesh.{Mesh, dest, links_of, list_of}
 use Rattle.rules.specs.Link.{walk, ring, ring_vertices}
 use Rattle.rules.proofs.Places.{list_back}

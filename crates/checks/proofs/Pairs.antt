@@ -2,7 +2,7 @@
 use Prim.Native.Nat.{ℕ, ◌≤◌, ◌<◌}
 use native.Mathlib.Omega.{arith}
 use mathlib.Core.Path.{◌≡◌, refl, ap, sym, ◌∙◌}
-use mathlib.Core.Bool.{Bool, true, false, not, ◌&&◌, ◌||◌, cond}
+use mathlib.Core.Bool.{Bool, true, not, ◌&&◌, ◌||◌, cond}
 use mathlib.Core.List.{List, map}
 use lib.ListN.{length, get_or, length-map}
 use lib.Dec.{eqb}
@@ -10,7 +10,7 @@ use Rattle.rules.specs.declared.Links.{Links}
 use Rattle.rules.specs.declared.Edit.{Edit}
 use Rattle.rules.specs.declared.Edit.TheVariants.{FaceInsert}
 use borrow.Author.Tests.{leb-true}
-use Rattle.rules.specs.Table.{Table, cell, has, after}
+use Rattle.rules.specs.Table.{cell, has, after}
 use Rattle.rules.specs.Mesh.{Mesh, dest, next, face, find_key, links_of, list_of}
 use Rattle.rules.specs.Insert.{arc_at, has_face, leads_back}
 use Rattle.rules.specs.Edit.{corners}

@@ -1,6 +1,6 @@
 -- The edge of one pair is made in unused rows, so it makes and hides no arc of a pair that joins other vertices: the arcs found before the edges
 -- tell of every pair that no pair before has met. And rows that are used stay so.
-use Prim.Native.Nat.{ℕ, ◌+◌, ◌-◌, ◌≤◌, ◌<◌}
+use Prim.Native.Nat.{ℕ, ◌+◌, ◌-◌, ◌<◌}
 use native.Mathlib.Decide.{ℕ_discrete}
 use mathlib.Core.Path.{◌≡◌, refl, ap, sym, subst, ◌∙◌}
 use mathlib.Core.Bool.{Bool, false, cond, ◌&&◌}
@@ -11,14 +11,14 @@ use lib.Dec.{eqb}
 use borrow.Author.Tests.{eq-eqb, ne_eqb, eqb-true}
 use Rattle.rules.specs.declared.Links.{Links}
 use Rattle.rules.specs.Table.{Table, put_row, first_row, link_into, free_row, after}
-use Rattle.rules.specs.Mesh.{Mesh, joins, arc_between, links_of, list_of}
+use Rattle.rules.specs.Mesh.{Mesh, joins, arc_between, list_of}
 use Rattle.rules.specs.Link.{new_arc, new_edge, get_or_insert_edge}
 use Rattle.rules.proofs.Scan.{joins-no-source}
 use Rattle.edges.specs.declared.free.Lowest.{Lowest}
 use Rattle.edges.specs.Free.{UsedBefore}
 use Rattle.edges.proofs.Searches.{used-free, free-unused, used-arcs, used-edges}
 use Rattle.pairs.specs.Pairs.{pair_arc, arcs_of, same_two, meets, met_before}
-use Rattle.pairs.proofs.Listed.{pair-listed, arcs-held}
+use Rattle.pairs.proofs.Listed.{pair-listed}
 use Rattle.pairs.proofs.Below.{some-fewer, some-last, or_left, or_right}
 use Rattle.insert.specs.Perimeter.{edge_in, IsPair}
 use Rattle.insert.proofs.FoundOnce.{first-set}

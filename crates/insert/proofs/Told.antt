@@ -11,9 +11,8 @@ use lib.ListN.{length, get_or, take, set, length-set}
 use lib.Seq.{get_or-set_same, get_or-set_other, get_or-take, length-take-le, ext_get_or}
 use lib.Dec.{eqb}
 use borrow.Author.Tests.{eq-eqb, ne_eqb}
-use Rattle.rules.specs.declared.Links.{Links}
-use Rattle.rules.specs.Table.{Table, put_row, unused, first_row, below, link_into, row_limit, free_row, some_below, has, after}
-use Rattle.rules.specs.Mesh.{Mesh, joins, arc_between, list_of}
+use Rattle.rules.specs.Table.{Table, put_row, unused, first_row, below, link_into, free_row, some_below, has, after}
+use Rattle.rules.specs.Mesh.{Mesh, joins, arc_between}
 use Rattle.rules.specs.Link.{new_arc, new_edge}
 use Rattle.rules.proofs.Scan.{joins-yes, first-le}
 use Rattle.tables.proofs.Scans.{into-large, into-fits, into-found}

@@ -5,26 +5,22 @@ use lib.Dec.{leb}
 use borrow.Author.Tests.{leb-true}
 use mathlib.Core.List.{List, [], ◌∷◌, ◌++◌}
 use lib.ListN.{length, take, drop, replicate, length-append, length-take, length-drop}
-use lib.Ieee.{Float}
 use Prim.Native.Nat.{ℕ, ◌-◌, ◌≤◌}
 use native.Mathlib.Omega.{arith}
 use Rattle.rules.specs.declared.Answer.{Answer}
 use Rattle.rules.specs.declared.Edit.{Edit}
-use Rattle.rules.specs.Table.{Table}
-use Rattle.rules.specs.Mesh.{Mesh, mesh, Room, room}
+use Rattle.rules.specs.Mesh.{Mesh, Room, room}
 use Rattle.rules.specs.Step.{Step, step, stops, accepted}
-use Rattle.rules.specs.Call.{kept, zeroed, outcome, room_enough, given, checks, moves_finite, room_for, need, work, worked, last_step, decided, ready, called}
+use Rattle.rules.specs.Call.{zeroed, outcome, room_enough, given, checks, moves_finite, room_for, need, work, worked, decided, ready, called}
 use Rattle.rules.specs.Sound.{sound}
 use Rattle.rules.specs.Point.{zero_float}
 use Rattle.rules.specs.declared.Answer.TheVariants.{Done, Refused}
-use Rattle.rules.specs.declared.Refusal.TheVariants.{Tables, Argument, NoRoom, WouldBreak}
+use Rattle.rules.specs.declared.Refusal.TheVariants.{Tables, Argument, NoRoom}
 use Rattle.rules.specs.declared.Call.{Call}
-use Rattle.tables.specs.Sets.{over, set_over}
-use Rattle.tables.proofs.Lists.{over-same}
 use Rattle.rules.specs.declared.Edit.TheVariants.{FaceInsert}
 use Rattle.checks.proofs.Pairs.{given-few}
 use Rattle.order.proofs.Deciding.{not-given}
-use Rattle.order.proofs.Settling.{over-refused, over-accepted}
+use Rattle.order.proofs.Settling.{over-refused}
 use Rattle.order.specs.Transaction as T
 use Rattle.order.specs.Transaction.{Left, left, SameSize, before_work}
 use Rattle.mesh.specs.Near.{Fits}

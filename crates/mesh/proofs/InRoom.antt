@@ -1,13 +1,13 @@
 -- An edit in room: that the rings near it tell whether its result is sound, which rows it can have changed, and what is settled in the end.
 use Prim.Native.Nat.{ℕ, ◌≤◌}
-use mathlib.Core.Path.{◌≡◌, refl, ap, sym, subst, ◌∙◌}
-use mathlib.Core.Bool.{Bool, true, false}
+use mathlib.Core.Path.{◌≡◌, ap, sym, subst, ◌∙◌}
+use mathlib.Core.Bool.{true, false}
 use mathlib.Core.List.{List}
 use lib.ListN.{length, take}
 use Rattle.rules.specs.declared.Answer.{Answer}
 use Rattle.rules.specs.declared.Edit.{Edit}
 use Rattle.rules.specs.Mesh.{Mesh, mesh, Room, room, face_kind, next_key}
-use Rattle.rules.specs.Step.{Step, step, accepted}
+use Rattle.rules.specs.Step.{Step, accepted}
 use Rattle.rules.specs.Sound.{sound}
 use Rattle.rules.specs.Call.{work, worked}
 use Rattle.proved.specs.Facts.{SoundFacts}

@@ -14,7 +14,7 @@ use Rattle.rules.specs.Mesh.{Mesh}
 use Rattle.rules.specs.Step.{Step, accepted}
 use Rattle.rules.specs.Edit.{remove_work}
 use Rattle.rules.specs.Sound.{sound}
-use Rattle.rules.specs.Call.{given, checks, moves_finite, room_for, need, work, worked, decided}
+use Rattle.rules.specs.Call.{given, checks, moves_finite, room_for, need, work, decided}
 use Rattle.makers.specs.Makers.{searching, work_by}
 use Rattle.kept.specs.Frame.{ThreeCounters}
 use Rattle.kept.proofs.Eight.{Behind}

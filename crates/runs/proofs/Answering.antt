@@ -1,13 +1,13 @@
 -- What one line leaves and writes, for a line that can't be read and for one that says an edit. Assumes nothing.
-use Prim.Native.Nat.{ℕ, ◌+◌, ◌-◌, ◌≤◌}
+use Prim.Native.Nat.{ℕ, ◌-◌, ◌≤◌}
 use native.Mathlib.Omega.{arith}
-use mathlib.Core.Path.{◌≡◌, refl, ap, sym, ◌∙◌}
-use mathlib.Core.List.{List, []}
+use mathlib.Core.Path.{◌≡◌}
+use mathlib.Core.List.{List}
 use lib.ListN.{length, take, replicate, length-append}
 use Rattle.rules.specs.declared.Answer.{Answer}
 use Rattle.rules.specs.declared.Edit.{Edit}
 use Rattle.rules.specs.Mesh.{Mesh, Room}
-use Rattle.rules.specs.Call.{Outcome, outcome, call, called}
+use Rattle.rules.specs.Call.{outcome, call, called}
 use Rattle.rules.specs.Script.{Text, Line, unreadable, says, line_in}
 use Rattle.script.specs.Texts.{Written, wrote, answer_line, unreadable_line}
 use Rattle.script.specs.declared.Said.TheVariants.{Says}
@@ -15,7 +15,7 @@ use Rattle.script.specs.declared.Parsed.{Parsed}
 use Rattle.script.specs.Fields.{padded}
 use Rattle.script.specs.Lines.{parsed_of}
 use Rattle.script.proofs.Spoken.{says_is}
-use Rattle.runs.specs.Run.{Ran, ran, answered, ran_for, ran_line, Printed, printed, printed_at}
+use Rattle.runs.specs.Run.{answered, ran_for, ran_line, printed, printed_at}
 
 -- ---- the keys of a line that was read
 

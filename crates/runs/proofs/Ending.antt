@@ -1,6 +1,6 @@
 -- What is written at the end of a script: nothing where the check answers 1, else the line with the counts. Assumes nothing.
 use Prim.Native.Nat.{ℕ}
-use mathlib.Core.Path.{◌≡◌, refl}
+use mathlib.Core.Path.{◌≡◌}
 use borrow.Author.Tests.{eq-eqb, ne_eqb}
 use Rattle.rules.specs.Table.{count, used}
 use Rattle.rules.specs.Mesh.{Mesh}

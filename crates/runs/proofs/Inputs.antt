@@ -1,13 +1,13 @@
 -- An input cut into lines chunk by chunk has the lines that the definition gives it, and the program run so writes what the definition
 -- of the program writes. Assumes nothing.
-use Prim.Native.Nat.{ℕ, zero, suc, ◌+◌, ◌≤◌, ◌<◌}
+use Prim.Native.Nat.{ℕ, ◌≤◌, ◌<◌}
 use native.Mathlib.Numerals.{add-one}
 use native.Mathlib.Omega.{arith}
 use native.Mathlib.Decide.{ℕ_discrete, dec_lt, dec_le}
 use mathlib.Core.Path.{◌≡◌, refl, ap, sym, ◌∙◌}
 use mathlib.Core.Bool.{Bool, true, false, cond}
 use mathlib.Core.List.{List, [], ◌∷◌, ◌++◌, map, foldl, append_assoc, append-nil}
-use lib.ListN.{length, take, set, replicate, length-append, length-take, length-set, length-replicate}
+use lib.ListN.{length, take, length-append, length-take, length-set, length-replicate}
 use lib.Seq.{take_all, length-take-le, take-append-le, take-suc-set}
 use lib.Dec.{eqb}
 use borrow.Author.Tests.{lt-ltb, le-ltb, eq-eqb, ne_eqb}
@@ -15,11 +15,10 @@ use Rattle.rules.specs.Mesh.{Mesh, Room}
 use Rattle.rules.specs.Step.{told}
 use Rattle.rules.specs.declared.Call.{Call}
 use Rattle.rules.specs.Call.{called, call, zeroed}
-use Rattle.rules.specs.Records.{records}
-use Rattle.rules.specs.Dump.{records_text, dumped, dumped_on}
+use Rattle.rules.specs.Dump.{dumped, dumped_on}
 use Rattle.rules.specs.Script.{Text, newline, with_head, parts_at, without_last_empty, lines_of, Line, unreadable, says, line_in, empty_room, empty_mesh, State, state, after_line, after_lines, after_script, program, program_on}
 use Rattle.rules.proofs.Promises.{rooms-end-zero, one-untouched}
-use Rattle.script.specs.Texts.{Written, written}
+use Rattle.script.specs.Texts.{Written}
 use Rattle.script.proofs.Says.{line-long}
 use Rattle.script.proofs.Writes.{after-unreadable, after-says}
 use Rattle.runs.specs.Run.{Ran, ran, answered, ran_for, ran_line}

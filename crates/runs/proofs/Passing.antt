@@ -4,7 +4,7 @@ use Prim.Native.Nat.{ℕ, suc, ◌+◌, ◌-◌, ◌≤◌, ◌<◌}
 use native.Mathlib.Omega.{arith}
 use mathlib.Core.Path.{◌≡◌, refl, ap, sym, ◌∙◌}
 use mathlib.Core.Bool.{Bool, true, false, cond}
-use mathlib.Core.List.{List, [], ◌∷◌, ◌++◌, append_assoc, append-nil}
+use mathlib.Core.List.{[], ◌∷◌, ◌++◌, append_assoc, append-nil}
 use lib.ListN.{length, get_or, take, drop, length-append, length-drop, drop_of_length-le}
 use lib.Seq.{drop-cons, take_at, drop_at, drop-drop, length-take-le}
 use lib.Dec.{eqb}
@@ -13,7 +13,7 @@ use Rattle.rules.specs.Script.{Text, newline}
 use Rattle.script.specs.Texts.{Written, written, wrote}
 use Rattle.script.proofs.Writes.{wrote_none}
 use Rattle.runs.specs.Run.{Ran, ran_line, Printed, printed, printed_at}
-use Rattle.runs.specs.Gather.{held_in, none_held, line_ended, Cut, cut, holds, holding, cut_byte, cut_all, Gathering, gathering, gathered_from, after_gathered}
+use Rattle.runs.specs.Gather.{held_in, none_held, line_ended, holds, holding, cut_byte, cut_all, Gathering, gathered_from, after_gathered}
 use Rattle.runs.specs.Feed.{ran_on, Feeding, feeding, unwritten, fed, after, prefixed, Handed, handed, handed_at, line_fed}
 use Rattle.runs.proofs.Cutting.{cut_line, next_up, next-most}
 

@@ -1,10 +1,10 @@
 -- An input fed to the program: each line that ends is run, and what is written for it follows on what was written before.
-use Rattle.std.specs.Prelude.{ℕ, ◌+◌, List, [], ◌++◌, drop}
+use Rattle.std.specs.Prelude.{ℕ, [], ◌++◌, drop}
 use Rattle.rules.specs.Mesh.{Mesh, Room}
 use Rattle.rules.specs.Script.{Text}
 use Rattle.script.specs.Texts.{Written, wrote}
 use Rattle.runs.specs.Run.{Ran, ran, ran_line}
-use Rattle.runs.specs.Gather.{Cut, cut, cut_all, Gathering, gathered_from, after_gathered}
+use Rattle.runs.specs.Gather.{Cut, cut, cut_all, gathered_from, after_gathered}
 
 -- one line more
 unfoldable pub ran_on : Ran → Text → Ran

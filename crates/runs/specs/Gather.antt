@@ -1,6 +1,6 @@
 -- The lines of an input, cut out of the chunks in which it is read: of a line its first 513 bytes are held, in a buffer with the place
 -- reached in it, and with each line that ended something is done.
-use Rattle.std.specs.Prelude.{ℕ, ◌+◌, Bool, true, false, cond, List, [], ◌∷◌, set, take, eqb, ltb}
+use Rattle.std.specs.Prelude.{ℕ, ◌+◌, Bool, true, false, cond, [], ◌∷◌, set, take, eqb, ltb}
 use Rattle.rules.specs.Script.{Text, newline}
 use Rattle.script.specs.Texts.{Written, written}
 

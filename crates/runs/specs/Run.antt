@@ -1,5 +1,5 @@
 -- One line of a script run: what it leaves, and what is written for it.
-use Rattle.std.specs.Prelude.{ℕ, List}
+use Rattle.std.specs.Prelude.{ℕ}
 use Rattle.rules.specs.declared.Edit.{Edit}
 use Rattle.rules.specs.Mesh.{Mesh, Room}
 use Rattle.rules.specs.Call.{Outcome, call, called}

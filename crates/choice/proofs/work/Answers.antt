@@ -2,7 +2,6 @@ use mathlib.Core.Path.{ap, sym, ◌∙◌}
 use Rattle.rules.specs.declared.Edit.{Edit}
 use Rattle.rules.specs.Mesh.{mesh}
 use Rattle.makers.specs.Makers.{searching, work_by}
-use borrow.Author.Rules.{rules}
 use Rattle.choice.proofs.work.Goals as goal
 
 pub face_insert-requires : goal.face_insert-requires

@@ -1,5 +1,4 @@
 -- `checks::bridge::bridge_checks` meets its contract. The tests in their order. Assumes nothing.
-use Prim.Native.Nat.{◌-◌}
 use borrow.Author.Tests.{eq-eqb, ne_eqb}
 use Rattle.rules.specs.Edit.{bridge_checks}
 use Rattle.checks.proofs.bridge.bridge_checks.Goals as goal

@@ -1,6 +1,5 @@
 -- `checks::bridge::corner_list` meets its contract. The loop keeps the places of as many corners as it put in. Assumes nothing.
 use borrow.Author.Rules.{rules}
-use Prim.Native.Nat.{◌-◌}
 use native.Mathlib.Omega.{arith}
 use mathlib.Core.Path.{◌≡◌, refl, sym}
 use Rattle.rules.specs.Mesh.{places_of}

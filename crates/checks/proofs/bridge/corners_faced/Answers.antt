@@ -1,6 +1,5 @@
 -- `checks::bridge::corners_faced` meets its contract. The loop keeps that no pair passed by has a face; laws of Below and Pairs. Assumes nothing.
 use borrow.Author.Rules.{rules}
-use Prim.Native.Nat.{◌-◌}
 use native.Mathlib.Omega.{arith}
 use mathlib.Core.Path.{◌≡◌, refl, sym, ◌∙◌}
 use Rattle.rules.specs.Table.{some_below}

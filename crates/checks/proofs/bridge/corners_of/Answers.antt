@@ -1,5 +1,4 @@
 -- `checks::bridge::corners_of` meets its contract. The four cells. Assumes nothing.
-use Prim.Native.Nat.{◌-◌}
 use Rattle.rules.specs.Edit.{corners}
 use Rattle.checks.proofs.bridge.corners_of.Goals as goal
 

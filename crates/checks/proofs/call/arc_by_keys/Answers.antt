@@ -1,5 +1,4 @@
 -- `checks::call::arc_by_keys` meets its contract. The two vertices, then the arc between them. Assumes nothing.
-use Prim.Native.Nat.{◌-◌}
 use mathlib.Core.Path.{◌∙◌}
 use Rattle.rules.specs.Call.{arc_by_keys}
 use Rattle.checks.proofs.call.arc_by_keys.Goals as goal

@@ -1,5 +1,4 @@
 -- `checks::call::by_keys` meets its contract. At most 64 keys are read back as they are; per-back of Pairs. Assumes nothing.
-use Prim.Native.Nat.{◌-◌}
 use Rattle.rules.specs.Mesh.{mesh}
 use Rattle.checks.proofs.Pairs.{per-back}
 use Rattle.checks.proofs.call.by_keys.Goals as goal

@@ -1,5 +1,4 @@
 -- `checks::call::checks_of` meets its contract. Each arm by its variant and what its callee ensures. Assumes nothing.
-use Prim.Native.Nat.{◌-◌}
 use mathlib.Core.Path.{◌≡◌, ap, ◌∙◌}
 use Rattle.rules.specs.Mesh.{Mesh, mesh, list_of}
 use Rattle.rules.specs.Call.{checks}

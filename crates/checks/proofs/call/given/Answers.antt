@@ -1,5 +1,4 @@
 -- `checks::call::given` meets its contract. Each arm by its variant. Assumes nothing.
-use Prim.Native.Nat.{◌-◌}
 use Rattle.rules.specs.Call.{given}
 use Rattle.checks.proofs.call.given.Goals as goal
 

@@ -1,5 +1,5 @@
 -- `checks::call::keys_left` meets its contract. No sum wraps, since more keys than there are were refused first. Assumes nothing.
-use Prim.Native.Nat.{◌+◌, ◌-◌}
+use Prim.Native.Nat.{◌+◌}
 use native.Mathlib.Omega.{arith}
 use mathlib.Core.Path.{sym}
 use borrow.Author.Tests.{lt-leb}

@@ -1,5 +1,4 @@
 -- `checks::call::most_of` meets its contract. Each arm by its variant; a ring has at most 64 arcs, so no product or sum wraps. Assumes nothing.
-use Prim.Native.Nat.{◌-◌}
 use native.Mathlib.Omega.{arith}
 use mathlib.Core.List.{[]}
 use Rattle.rules.specs.Mesh.{mesh}

@@ -1,5 +1,4 @@
 -- `checks::call::moves_finite` meets its contract. Each arm by its variant; of the arc extrude, both vertices. Assumes nothing.
-use Prim.Native.Nat.{◌-◌}
 use mathlib.Core.Path.{◌≡◌, ap, sym, ◌∙◌}
 use Rattle.rules.specs.Mesh.{mesh, list_of}
 use Rattle.rules.specs.Table.{every}

@@ -1,5 +1,4 @@
 -- `checks::call::need_of` meets its contract. Each arm by its variant; any other edit by what it needs at most. Assumes nothing.
-use Prim.Native.Nat.{◌-◌}
 use mathlib.Core.Path.{◌∙◌}
 use Rattle.rules.specs.Mesh.{mesh}
 use Rattle.rules.specs.Call.{need}

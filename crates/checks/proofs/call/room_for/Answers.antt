@@ -1,5 +1,4 @@
 -- `checks::call::room_for` meets its contract. The tests in their order. Assumes nothing.
-use Prim.Native.Nat.{◌-◌}
 use mathlib.Core.Path.{sym, ◌∙◌}
 use Rattle.rules.specs.Call.{room_for}
 use Rattle.checks.proofs.call.room_for.Goals as goal

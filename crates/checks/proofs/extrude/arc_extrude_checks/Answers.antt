@@ -1,5 +1,4 @@
 -- `checks::extrude::arc_extrude_checks` meets its contract. The tests in their order. Assumes nothing.
-use Prim.Native.Nat.{◌-◌}
 use borrow.Author.Tests.{eq-eqb, ne_eqb}
 use Rattle.rules.specs.Extrude.{arc_extrude_checks}
 use Rattle.checks.proofs.extrude.arc_extrude_checks.Goals as goal

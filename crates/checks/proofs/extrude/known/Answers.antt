@@ -1,5 +1,4 @@
 -- `checks::extrude::known` meets its contract. By the test of the code. Assumes nothing.
-use Prim.Native.Nat.{◌-◌}
 use borrow.Author.Tests.{eq-eqb, ne_eqb}
 use Rattle.rules.specs.Edit.{known}
 use Rattle.checks.proofs.extrude.known.Goals as goal

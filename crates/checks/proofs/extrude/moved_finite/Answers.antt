@@ -1,6 +1,5 @@
 -- `checks::extrude::moved_finite` meets its contract. The loop keeps that each vertex passed by is finite once moved; laws of Scan. Assumes nothing.
 use borrow.Author.Rules.{rules}
-use Prim.Native.Nat.{◌-◌}
 use native.Mathlib.Omega.{arith}
 use mathlib.Core.Path.{◌≡◌, sym, ◌∙◌}
 use lib.ListN.{length}

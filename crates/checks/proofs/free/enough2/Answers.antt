@@ -1,5 +1,5 @@
 -- `checks::free::enough2` meets its contract. The invariant: what is left to find and the free rows from i on are the need. The measure is i. Assumes nothing.
-use Prim.Native.Nat.{ℕ, ◌-◌}
+use Prim.Native.Nat.{ℕ}
 use native.Mathlib.Omega.{arith}
 use mathlib.Core.Path.{◌≡◌}
 use mathlib.Core.List.{[]}

@@ -1,5 +1,5 @@
 -- `checks::free::enough2` meets its contract. The invariant: what is left to find and the free rows from i on are the need. The measure is i. Assumes nothing.
-use Prim.Native.Nat.{◌-◌, ◌≤◌}
+use Prim.Native.Nat.{◌≤◌}
 use mathlib.Core.List.{[]}
 use lib.ListN.{length}
 use Rattle.rules.specs.Table.{unused}

@@ -1,5 +1,5 @@
 -- `checks::insert::conflict_by` meets its contract. The loop keeps that no pair passed by has a conflict; laws of Below. Assumes nothing.
-use Prim.Native.Nat.{ℕ, ◌-◌, ◌<◌}
+use Prim.Native.Nat.{ℕ, ◌<◌}
 use native.Mathlib.Omega.{arith}
 use mathlib.Core.Path.{◌≡◌, refl, ap, sym, ◌∙◌}
 use mathlib.Core.List.{List}

@@ -1,5 +1,4 @@
 -- `checks::insert::faced` meets its contract. By the two tests of the code. Assumes nothing.
-use Prim.Native.Nat.{◌-◌}
 use borrow.Author.Tests.{eq-eqb, ne_eqb}
 use Rattle.checks.proofs.insert.faced.Goals as goal
 

@@ -1,5 +1,4 @@
 -- `checks::insert::has_face` meets its contract. The test of `faced`, at the arc that the list has for the pair. Assumes nothing.
-use Prim.Native.Nat.{◌-◌}
 use Rattle.rules.specs.Mesh.{mesh}
 use Rattle.checks.proofs.Pairs.{arc-listed, face-of-arc}
 use Rattle.checks.proofs.insert.has_face.Goals as goal

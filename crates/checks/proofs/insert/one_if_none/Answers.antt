@@ -1,5 +1,4 @@
 -- `checks::insert::one_if_none` meets its contract. By the test of the code. Assumes nothing.
-use Prim.Native.Nat.{◌-◌}
 use borrow.Author.Tests.{eq-eqb, ne_eqb}
 use Rattle.checks.proofs.insert.one_if_none.Goals as goal
 

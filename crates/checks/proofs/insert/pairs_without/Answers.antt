@@ -1,6 +1,6 @@
 -- `checks::insert::pairs_without` meets its contract. The loop keeps the sum over the pairs passed by, which is at most their number. Assumes nothing.
 use borrow.Author.Rules.{rules}
-use Prim.Native.Nat.{◌-◌, ◌≤◌}
+use Prim.Native.Nat.{◌≤◌}
 use native.Mathlib.Omega.{arith}
 use mathlib.Core.Path.{◌≡◌, refl}
 use lib.ListN.{length}

@@ -1,5 +1,4 @@
 -- `checks::rings::ring_of` meets its contract. The walk from the face's arc, without how it ended. Assumes nothing.
-use Prim.Native.Nat.{◌-◌}
 use mathlib.Core.Path.{ap, ◌∙◌}
 use Rattle.rules.specs.declared.Walk.{Walk}
 use Rattle.rules.specs.Link.{ring, walk_of}

@@ -1,5 +1,4 @@
 -- `checks::rings::vertices_of` meets its contract. A ring of at most 64 is read back as it is. Assumes nothing.
-use Prim.Native.Nat.{◌-◌}
 use mathlib.Core.Path.{◌∙◌}
 use Rattle.rules.specs.Mesh.{mesh}
 use Rattle.rules.specs.Link.{ring_vertices}

@@ -1,5 +1,4 @@
 -- `checks::split::half` meets its contract. The ring's vertices are read back as they are, so the places are those in the ring. Assumes nothing.
-use Prim.Native.Nat.{◌-◌}
 use mathlib.Core.Path.{◌≡◌, ap, ◌∙◌}
 use Rattle.rules.specs.Mesh.{mesh, list_of}
 use Rattle.rules.specs.Link.{ring_vertices}

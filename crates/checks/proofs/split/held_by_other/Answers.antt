@@ -1,6 +1,5 @@
 -- `checks::split::held_by_other` meets its contract. The loop keeps that no pair passed by is (held l) by another face; laws of Below. Assumes nothing.
 use borrow.Author.Rules.{rules}
-use Prim.Native.Nat.{◌-◌}
 use native.Mathlib.Omega.{arith}
 use mathlib.Core.Path.{◌≡◌, refl, sym, ◌∙◌}
 use lib.ListN.{length}

@@ -1,5 +1,4 @@
 -- `checks::split::other_holds` meets its contract. By the two tests of the code. Assumes nothing.
-use Prim.Native.Nat.{◌-◌}
 use mathlib.Core.Path.{sym, ◌∙◌}
 use Rattle.rules.specs.Mesh.{mesh}
 use Rattle.checks.proofs.Pairs.{arc-listed}

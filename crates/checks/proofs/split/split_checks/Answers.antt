@@ -1,5 +1,4 @@
 -- `checks::split::split_checks` meets its contract. A law of Splits for each way out. Assumes nothing.
-use Prim.Native.Nat.{◌-◌}
 use Rattle.rules.specs.Mesh.{mesh}
 use Rattle.checks.proofs.Splits.{no-face, no_source, no-dest, too-near, left-held, right-held, splits}
 use Rattle.checks.proofs.split.split_checks.Goals as goal

@@ -1,6 +1,5 @@
 -- `checks::split::stretch` meets its contract. The loop keeps the places of as many as it put in; they are no more than the list has, so at most 64. Assumes nothing.
 use borrow.Author.Rules.{rules}
-use Prim.Native.Nat.{◌-◌}
 use native.Mathlib.Omega.{arith}
 use mathlib.Core.Path.{◌≡◌, refl}
 use Rattle.rules.specs.Mesh.{places_of, list_of}

@@ -1,6 +1,5 @@
 -- `checks::split::stretch_item` meets its contract. A law of Stretches for each way out. Assumes nothing.
 use borrow.Author.Rules.{rules}
-use Prim.Native.Nat.{◌-◌}
 use native.Mathlib.Omega.{arith}
 use mathlib.Core.Path.{sym, ◌∙◌}
 use Rattle.rules.specs.Mesh.{list_of}

@@ -1,6 +1,5 @@
 -- `checks::split::stretch_size` meets its contract. A law of Stretches for each of the two cases. Assumes nothing.
 use borrow.Author.Rules.{rules}
-use Prim.Native.Nat.{◌-◌}
 use mathlib.Core.Path.{sym}
 use Rattle.rules.specs.Mesh.{list_of}
 use Rattle.checks.proofs.Stretches.{round-size, straight-size}

@@ -1,6 +1,6 @@
 -- `insert::perimeter::edges_in` meets its contract. The loop keeps the edges of the pairs passed by, that the arcs found before still tell, and
 -- where unused rows may be looked for; laws of Apart. The perimeter is told by its array. Assumes nothing.
-use Prim.Native.Nat.{ℕ, ◌-◌}
+use Prim.Native.Nat.{ℕ}
 use native.Mathlib.Omega.{arith}
 use mathlib.Core.Path.{◌≡◌, refl, ap, sym, subst, ◌∙◌}
 use mathlib.Core.List.{List, []}

@@ -1,5 +1,4 @@
 -- `insert::perimeter::exterior` meets its contract. The loop keeps the exterior of the pairs passed by. Assumes nothing.
-use Prim.Native.Nat.{◌-◌}
 use native.Mathlib.Omega.{arith}
 use mathlib.Core.Path.{◌≡◌, refl, ◌∙◌}
 use lib.ListN.{length}

@@ -1,6 +1,6 @@
 -- `insert::search::free_arcs` meets its contract. The loop keeps how far both searches have come, and each way out is an end of both; laws of Seeking.
 -- Assumes nothing.
-use Prim.Native.Nat.{ℕ, ◌-◌}
+use Prim.Native.Nat.{ℕ}
 use mathlib.Core.Path.{refl}
 use mathlib.Core.List.{List, ◌++◌}
 use mathlib.Core.Logic.{inr}

@@ -1,5 +1,4 @@
 -- `nearby::rings::listed_rings` meets its contract. The loop keeps that the arcs passed are on their rings. Assumes nothing.
-use Prim.Native.Nat.{◌-◌}
 use mathlib.Core.Path.{sym, ◌∙◌}
 use lib.ListN.{take}
 use Rattle.names.proofs.Loops.{none_yet}

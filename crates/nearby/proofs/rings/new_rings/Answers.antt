@@ -1,5 +1,4 @@
 -- `nearby::rings::new_rings` meets its contract. The loop keeps that the rings of the new faces passed return. Assumes nothing.
-use Prim.Native.Nat.{◌-◌}
 use mathlib.Core.Path.{sym, ◌∙◌}
 use lib.ListN.{length}
 use Rattle.names.proofs.Loops.{none_yet, one_more, all-passed, one-failed}

@@ -1,5 +1,4 @@
 -- `nearby::rows::copy_listed` meets its contract. The loop keeps which rows of the list are copied; laws of Right. Assumes nothing.
-use Prim.Native.Nat.{◌-◌}
 use native.Mathlib.Omega.{arith}
 use mathlib.Core.Path.{refl, ◌∙◌}
 use Rattle.nearby.proofs.Right.{copied_none, copied-read, copied_all}

@@ -1,5 +1,4 @@
 -- `nearby::rows::copy_new` meets its contract. The loop keeps which arcs of new edges are copied; laws of Right. Assumes nothing.
-use Prim.Native.Nat.{◌-◌}
 use native.Mathlib.Omega.{arith}
 use mathlib.Core.Path.{refl, ◌∙◌}
 use Rattle.nearby.proofs.Right.{new_none, new-more}

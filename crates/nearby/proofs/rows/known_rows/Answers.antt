@@ -1,5 +1,4 @@
 -- `nearby::rows::known_rows` meets its contract. The loop keeps what is known of the rows passed by. Assumes nothing.
-use Prim.Native.Nat.{◌-◌}
 use native.Mathlib.Omega.{arith}
 use borrow.Author.Count.{below_none, below_more}
 use Rattle.nearby.proofs.rows.known_rows.Goals as goal

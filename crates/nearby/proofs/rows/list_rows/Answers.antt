@@ -1,5 +1,5 @@
 -- `nearby::rows::list_rows` meets its contract. The loop keeps what stands in the list after the rows passed by; laws of Listing. Assumes nothing.
-use Prim.Native.Nat.{◌+◌, ◌-◌}
+use Prim.Native.Nat.{◌+◌}
 use native.Mathlib.Omega.{arith}
 use lib.ListN.{take}
 use Rattle.nearby.proofs.Listing.{listed-none, listed-run}
