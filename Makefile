@@ -8,7 +8,7 @@ help:
 	@echo 'make run      run meshrun on SCRIPT (default examples/q.script)'
 	@echo 'make test     prove every crate, try the must-fail edits, run every program'
 	@echo 'make names    check that every name in README.md and docs is there (needs python3; make test does it first, where there is one)'
-	@echo 'make wrong    prove every crate and try every must-fail edit, those too that make test leaves out (three quarters of an hour)'
+	@echo 'make wrong    prove every crate and try every must-fail edit, those too that make test leaves out (long)'
 	@echo 'make lib      write target/lib/libullarvesp.a, for C and Rust on x86-64 to link (header: include/ullarvesp.h, crate: rust)'
 	@echo 'make examples build and run the examples in C and Rust, and compare what they print (needs cc, cargo)'
 	@echo 'make compare  run N random scripts (SEED) through meshdump and the Rust of plexus, and compare (needs cargo, python3)'
