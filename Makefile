@@ -46,7 +46,7 @@ names:
 # It lies outside the checkout, where rt ci refuses Rattle's files beside crates.
 wrong:
 	@$(needs_rt)
-	@copy=$$(mktemp -d) && trap 'rm -rf "$$copy"' EXIT && tar -cf - --exclude='crates/*/out' crates crates.txt $(wildcard HANDLES) | tar -xf - -C "$$copy" && \
+	@copy=$$(mktemp -d) && trap 'rm -rf "$$copy"' EXIT && tar -cf - --no-wildcards-match-slash --exclude='crates/*/out' crates crates.txt $(wildcard HANDLES) | tar -xf - -C "$$copy" && \
 	  for edit in "$$copy"/crates/*/must-fail-more/*.edit; do \
 	    crate=$${edit%/must-fail-more/*} && mkdir -p "$$crate/must-fail" && mv -n "$$edit" "$$crate/must-fail/" && [ ! -e "$$edit" ] || exit 1; \
 	  done && \
@@ -69,7 +69,7 @@ run: target/bin/meshrun
 	@$(RUN) target/bin/meshrun < '$(SCRIPT)'
 
 # A program is proved, with all that it stands on, before it is built. rt builds it in its crate's out/, and runs it: here once, on no input.
-SOURCES := crates.txt $(shell find crates -path 'crates/*/out' -prune -o \( -name '*.rt' -o -name '*.antt' \) -print)
+SOURCES := crates.txt $(shell find crates -regex 'crates/[^/]*/out' -prune -o \( -name '*.rt' -o -name '*.antt' \) -print)
 target/bin/%: $(SOURCES)
 	@$(needs_rt)
 	@echo 'proving and building $* (long, the first time)' >&2
