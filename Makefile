@@ -1,12 +1,14 @@
 # make alone prints the targets.
 
+SHELL := bash
+
 .PHONY: help test names wrong run compare lib archive examples rusttest bench
 
 help:
 	@echo 'make run      run meshrun on SCRIPT (default examples/q.script)'
 	@echo 'make test     prove every crate, try the must-fail edits, run every program'
 	@echo 'make names    check that every name in README.md and docs is there (needs python3; make test does it first, where there is one)'
-	@echo 'make wrong    prove every crate and try every must-fail edit, those too that make test leaves out (three quarters of an hour)'
+	@echo 'make wrong    prove every crate and try every must-fail edit, those too that make test leaves out (long)'
 	@echo 'make lib      write target/lib/libullarvesp.a, for C and Rust on x86-64 to link (header: include/ullarvesp.h, crate: rust)'
 	@echo 'make examples build and run the examples in C and Rust, and compare what they print (needs cc, cargo)'
 	@echo 'make compare  run N random scripts (SEED) through meshdump and the Rust of plexus, and compare (needs cargo, python3)'
@@ -21,13 +23,18 @@ needs_cargo = $(call needs,cargo,Install Rust.)
 needs_python = $(call needs,python3,Install Python 3.)
 needs_cc = $(call needs,$(CC),Install a C compiler.)
 
-# The last line printed is rt's own: N passed, M failed. rt proves crates that need nothing of each other in batches, and waits for a whole batch
-# before it starts the next. At most five crates need nothing of each other, so five at a time: with fewer a core stands idle between batches.
-# A crate takes up to 3.5 GB. RT_JOBS sets another number.
+# The last line printed is rt's own: N passed, M failed. rt passes over must-fail edits that no longer fit the text, and counts them on its line
+# rt: ok, as ", N bad"; such a line fails the test here.
 test:
 	@$(needs_rt)
 	@! command -v python3 > /dev/null 2>&1 || python3 docs/check-names >&2
-	@RT_JOBS=$${RT_JOBS:-5} exec rt ci
+	@set -o pipefail; rt ci | { \
+	  bad=0; \
+	  while IFS= read -r line; do \
+	    case $$line in 'rt: ok'*', '*' bad'*) bad=1; echo 'make test: must-fail edits are bad, as rt says above' >&2;; esac; \
+	    printf '%s\n' "$$line"; \
+	  done; \
+	  exit $$bad; }
 
 # Definitions, theorems, functions, must-fail edits, files and links that the documents name. docs/check-names says by which rule.
 names:
@@ -35,18 +42,21 @@ names:
 	@python3 docs/check-names
 	@echo 'make names: all that README.md and docs name is there'
 
-# The edits under must-fail/more are of crates that take long to prove. rt tries what stands in must-fail alone, so a copy of the crates has all there.
+# The edits in must-fail-more are of crates that take long to prove. rt tries what stands in must-fail alone, so a copy of the crates has all there.
+# It lies outside the checkout, where rt ci refuses Rattle's files beside crates.
 wrong:
 	@$(needs_rt)
-	@rm -rf target/wrong && mkdir -p target/wrong && cp -r crates crates.txt target/wrong/
-	@for edit in target/wrong/crates/*/must-fail/more/*.edit; do mv "$$edit" "$$(dirname "$$(dirname "$$edit")")"/ || exit 1; done
-	@cd target/wrong && RT_JOBS=$${RT_JOBS:-5} rt must-fail
+	@copy=$$(mktemp -d) && trap 'rm -rf "$$copy"' EXIT && tar -cf - --no-wildcards-match-slash --exclude='crates/*/out' crates crates.txt $(wildcard HANDLES) | tar -xf - -C "$$copy" && \
+	  for edit in "$$copy"/crates/*/must-fail-more/*.edit; do \
+	    crate=$${edit%/must-fail-more/*} && mkdir -p "$$crate/must-fail" && mv -n "$$edit" "$$crate/must-fail/" && [ ! -e "$$edit" ] || exit 1; \
+	  done && \
+	  cd "$$copy" && rt must-fail
 
 # ---- programs
 
 # A program is compiled for x86-64. RUN stands before it: nothing there, elsewhere an emulator, by default the one that the kit brings.
 RUN ?= $(shell [ "$$(uname -m)" = x86_64 ] || { \
-  tools=$$(dirname "$$(dirname "$$(rt doc)")")/on/$$(uname -m)/toolchain; \
+  tools=$$(dirname "$$(rt doc)")/on/$$(uname -m)/toolchain; \
   [ ! -x "$$tools/bin/qemu-x86_64" ] || echo "$$tools/bin/qemu-x86_64 $$tools/lib/ld-linux-x86-64.so.2 --library-path $$tools/lib"; })
 needs_run = [ "$$(uname -m)" = x86_64 ] || [ -n '$(RUN)' ] || { \
   echo "make $(MAKECMDGOALS): programs are compiled for x86-64, and this machine is $$(uname -m). Give RUN, what runs such a program here." >&2; exit 1; }
@@ -58,13 +68,13 @@ run: target/bin/meshrun
 	@$(needs_run)
 	@$(RUN) target/bin/meshrun < '$(SCRIPT)'
 
-# A program is proved, with all that it stands on, before it is built.
-SOURCES := crates.txt $(shell find crates -name '*.rt' -o -name '*.antt')
+# A program is proved, with all that it stands on, before it is built. rt builds it in its crate's out/, and runs it: here once, on no input.
+SOURCES := crates.txt $(shell find crates -regex 'crates/[^/]*/out' -prune -o \( -name '*.rt' -o -name '*.antt' \) -print)
 target/bin/%: $(SOURCES)
 	@$(needs_rt)
 	@echo 'proving and building $* (long, the first time)' >&2
-	@rt check $* >&2
-	@touch $@
+	@cd crates/$* && rt run < /dev/null > /dev/null
+	@mkdir -p target/bin && cp crates/$*/out/$* $@
 
 # ---- the Rust of plexus
 
@@ -90,7 +100,7 @@ compare: target/bin/meshdump $(ORACLE_BUILD)/oracle
 
 # ---- the library for C and Rust
 
-# rt staticlib writes x86-64 code. LIB names an archive to link in its place, one for this machine's processor for instance.
+# rt writes x86-64 code. LIB names an archive to link in its place, one for this machine's processor for instance.
 LIB ?=
 ARCHIVE = $(if $(LIB),$(abspath $(LIB)),$(CURDIR)/target/lib/libullarvesp.a)
 CARGO = ULLARVESP_LIB='$(ARCHIVE)' CARGO_TARGET_DIR='$(CURDIR)/target/rust' cargo
@@ -102,8 +112,8 @@ target/lib/libullarvesp.a: $(SOURCES)
 	@$(needs_rt)
 	@echo 'proving and compiling the library (long, the first time)' >&2
 	@mkdir -p target/lib
-	@rt staticlib calls > target/lib.log 2>&1 || { cat target/lib.log; exit 1; }
-	@cp target/staticlib/libcalls.a $@
+	@(cd crates/calls && rt lib) > target/lib.log 2>&1 || { cat target/lib.log; exit 1; }
+	@cp crates/calls/out/libcalls.a $@
 
 # The archive to link: the one given, or ours where it can run.
 archive:
@@ -130,16 +140,18 @@ rusttest: archive $(ORACLE_BUILD)/oracle
 	@ORACLE_BIN='$(ORACLE_BUILD)/oracle' ORACLE_CASES='$(abspath $(ORACLE))/cases' \
 	  $(CARGO) test --offline --manifest-path rust/Cargo.toml -- --nocapture
 
-target/staticlib/libtablebench.a: $(SOURCES)
+target/lib/libtablebench.a: $(SOURCES)
 	@$(needs_rt)
-	@rt staticlib tablebench > target/bench.log 2>&1 || { cat target/bench.log; exit 1; }
+	@mkdir -p target/lib
+	@(cd crates/tablebench && rt lib) > target/bench.log 2>&1 || { cat target/bench.log; exit 1; }
+	@cp crates/tablebench/out/libtablebench.a $@
 
 # BENCH_MS: the milliseconds spent on each figure (bench/src/main.rs). The leaves are timed with our own archive alone.
 bench: archive $(ORACLE_BUILD)/oracle
 	@$(needs_cc)
 	@if [ -z '$(LIB)' ]; then \
-	  $(MAKE) --no-print-directory target/staticlib/libtablebench.a || exit 1; \
-	  $(CC) -O2 -o target/bench-tables bench/tables.c target/staticlib/libtablebench.a && target/bench-tables && echo; fi
+	  $(MAKE) --no-print-directory target/lib/libtablebench.a || exit 1; \
+	  $(CC) -O2 -o target/bench-tables bench/tables.c target/lib/libtablebench.a && target/bench-tables && echo; fi
 	@$(CC) -std=c11 -O2 -Iinclude -o target/bench-calls bench/calls.c '$(ARCHIVE)' && target/bench-calls && echo
-	@ln -sfn '$(ORACLE_BUILD)/tree' target/plexus
+	@rm -rf target/plexus && cp -Rp '$(ORACLE_BUILD)/tree' target/plexus
 	@$(CARGO) run --quiet --release --offline --manifest-path bench/Cargo.toml
