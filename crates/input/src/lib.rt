@@ -17,7 +17,7 @@ struct Turned {
     ended: bool,
 }
 
-// One chunk: read, run, and its answers written.
+// One chunk: read, run, and its answers written. Where the read fails all is as it was, and where the write fails the chunk was run.
 fn turn<R: Read, W: Write>(
     reader: &mut R,
     writer: &mut W,
