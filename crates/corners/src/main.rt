@@ -8,29 +8,21 @@ mod texts; // texts.rt: the texts of a line and of an answer
 ghost use Rattle.std.specs.Prelude.{◌≤◌, length};
 
 use asked::Asked;
-use libc::STDOUT_FILENO;
 use runs::{Arcs, Edges, Faces, Positions, Vertices, counts};
+use std::io;
 
 const CORNERS: u32 = 3;
 
 // ---- what each corner is
 
-fn name_of(corner: u32) {
+fn name_of(rt: &impl Print, corner: u32) -> io::Result<()> {
     if corner == 0 {
-        io::write_all(
-            STDOUT_FILENO,
-            b"Lone triangle extruded: 6 vertices, 9 edges, 4 faces. ",
-        );
-        return;
+        return print!(rt; "Lone triangle extruded: 6 vertices, 9 edges, 4 faces. ");
     }
     if corner == 1 {
-        io::write_all(STDOUT_FILENO, b"A ring of 64 accepted, 65 keys 2. ");
-        return;
+        return print!(rt; "A ring of 64 accepted, 65 keys 2. ");
     }
-    io::write_all(
-        STDOUT_FILENO,
-        b"The last free face row used; one fewer, 7. ",
-    );
+    print!(rt; "The last free face row used; one fewer, 7. ")
 }
 
 fn lines_of(corner: u32) -> u32 {
@@ -67,19 +59,20 @@ fn put_end_of(corner: u32, out: &mut [u8]) -> usize
 // ---- what comes of it
 
 // Whether the text is the one wanted; if not, both are printed.
-fn held_to(text: &[u8], wanted: &[u8]) -> bool {
+fn held_to(rt: &impl Print, text: &[u8], wanted: &[u8]) -> io::Result<bool> {
     if texts::same(text, wanted) {
-        return true;
+        return Ok(true);
     }
-    io::write_all(STDOUT_FILENO, b"wanted: ");
-    io::write_all(STDOUT_FILENO, wanted);
-    io::write_all(STDOUT_FILENO, b"printed: ");
-    io::write_all(STDOUT_FILENO, text);
-    false
+    rt.write_all(b"wanted: ")?;
+    rt.write_all(wanted)?;
+    rt.write_all(b"printed: ")?;
+    rt.write_all(text)?;
+    Ok(false)
 }
 
 // One line, run and held to its answer.
 fn ask(
+    rt: &impl Print,
     vertices: &mut Vertices,
     positions: &mut Positions,
     arcs: &mut Arcs,
@@ -87,7 +80,7 @@ fn ask(
     faces: &mut Faces,
     counters: &mut [u32; 3],
     a: Asked,
-) -> bool {
+) -> io::Result<bool> {
     let mut line = [0u8; texts::ROOM];
     let mut wanted = [0u8; texts::ROOM];
     let mut out = [0u8; 64];
@@ -103,11 +96,12 @@ fn ask(
         &line[0..n],
         &mut out,
     );
-    held_to(&out[0..m], &wanted[0..w])
+    held_to(rt, &out[0..m], &wanted[0..w])
 }
 
 // All lines of a corner, up to the first that is answered otherwise.
 fn ask_all(
+    rt: &impl Print,
     vertices: &mut Vertices,
     positions: &mut Positions,
     arcs: &mut Arcs,
@@ -115,21 +109,22 @@ fn ask_all(
     faces: &mut Faces,
     counters: &mut [u32; 3],
     corner: u32,
-) -> bool {
+) -> io::Result<bool> {
     let n = lines_of(corner);
     let mut at: u32 = 0;
     while at < n {
         let a = asked_at(corner, at);
-        if !ask(vertices, positions, arcs, edges, faces, counters, a) {
-            return false;
+        if !ask(rt, vertices, positions, arcs, edges, faces, counters, a)? {
+            return Ok(false);
         }
         at += 1;
     }
-    true
+    Ok(true)
 }
 
 // The counts after a corner's lines, held to those wanted.
 fn end_of(
+    rt: &impl Print,
     vertices: &Vertices,
     positions: &Positions,
     arcs: &Arcs,
@@ -137,30 +132,32 @@ fn end_of(
     faces: &Faces,
     counters: &[u32; 3],
     corner: u32,
-) -> bool {
+) -> io::Result<bool> {
     let mut out = [0u8; 64];
     let mut wanted = [0u8; 64];
     let n = counts::put_counts(vertices, positions, arcs, edges, faces, counters, &mut out);
     let w = put_end_of(corner, &mut wanted);
-    held_to(&out[0..n], &wanted[0..w])
+    held_to(rt, &out[0..n], &wanted[0..w])
 }
 
-fn say_ok(ok: bool) {
+fn say_ok(rt: &impl Print, ok: bool) -> io::Result<()> {
     if ok {
-        io::write_all(STDOUT_FILENO, b"ok\n");
+        println!(rt; "ok")?;
     }
+    Ok(())
 }
 
 // A corner, from an empty mesh.
-fn run_corner(corner: u32) {
+fn run_corner(rt: &impl Print, corner: u32) -> io::Result<()> {
     let mut vertices = [[0u32; 2]; 64];
     let mut positions = [[0.0f64; 3]; 64];
     let mut arcs = [[0u32; 6]; 256];
     let mut edges = [[0u32; 3]; 128];
     let mut faces = [[0u32; 3]; 64];
     let mut counters = [0u32; 3];
-    name_of(corner);
+    name_of(rt, corner)?;
     if ask_all(
+        rt,
         &mut vertices,
         &mut positions,
         &mut arcs,
@@ -168,17 +165,20 @@ fn run_corner(corner: u32) {
         &mut faces,
         &mut counters,
         corner,
-    ) {
-        say_ok(end_of(
-            &vertices, &positions, &arcs, &edges, &faces, &counters, corner,
-        ));
+    )? {
+        let ok = end_of(
+            rt, &vertices, &positions, &arcs, &edges, &faces, &counters, corner,
+        )?;
+        say_ok(rt, ok)?;
     }
+    Ok(())
 }
 
-fn main() {
+fn main(rt: HostRuntime) -> io::Result<()> {
     let mut corner: u32 = 0;
     while corner < CORNERS {
-        run_corner(corner);
+        run_corner(&rt, corner)?;
         corner += 1;
     }
+    Ok(())
 }

@@ -1,23 +1,26 @@
-// What meshrun and meshdump share: standard input is read in chunks to its end, each line is run, and the answers are written to standard
-// output, a chunk's at a time. What a chunk leaves and writes is proved in the crate runs; no contract can say what is read or written.
+// What meshrun and meshdump share: an input is read in chunks to its end, each line is run, and the answers are written, a chunk's at a
+// time. What a chunk leaves and writes is proved in the crate runs; no contract says what is read or written. The programs lend standard
+// input and standard output. A read or a write that fails ends the run with its error.
 
 #![tactic(auto)]
 
-ghost use Rattle.std.specs.Prelude.{◌≤◌};
+ghost use Rattle.std.specs.Prelude.{◌≤◌, IfOk};
 
-use libc::{STDIN_FILENO, STDOUT_FILENO};
 use runs::{ANSWERS, Arcs, CHUNK, Edges, Faces, HELD, Positions, Vertices, counts, feed};
+use std::io;
+use std::io::{Read, Write};
 
-// How many bytes of an unended line are held, whether the input ended, and whether all answers were written.
+// How many bytes of an unended line are held, and whether the input ended.
 #[derive(Clone, Copy)]
 struct Turned {
     held: usize,
     ended: bool,
-    written: bool,
 }
 
-// One chunk: read, run, and its answers written.
-fn turn(
+// One chunk: read, run, and its answers written. Where the read fails all is as it was, and where the write fails the chunk was run.
+fn turn<R: Read, W: Write>(
+    reader: &mut R,
+    writer: &mut W,
     vertices: &mut Vertices,
     positions: &mut Positions,
     arcs: &mut Arcs,
@@ -37,13 +40,12 @@ fn turn(
     line: &mut [u8; HELD],
     held: usize,
     out: &mut [u8; ANSWERS],
-) -> Turned
+) -> io::Result<Turned>
     requires { held ≤ 513 }
-    ensures { result.held ≤ 513 }
+    ensures { IfOk result (λ t. t.held ≤ 513) }
 {
     let mut chunk = [0u8; CHUNK];
-    let got = libc::read(STDIN_FILENO, &mut chunk);
-    let read = io::count(got, &chunk);
+    let read = reader.read(&mut chunk)?;
     let n = feed::closed(&mut chunk, read, held);
     let fed = feed::feed(
         vertices,
@@ -69,16 +71,18 @@ fn turn(
     );
     let at = fed.at;
     let answers = &out[..];
-    Turned {
+    writer.write_all(&answers[0..at])?;
+    Ok(Turned {
         held: fed.held,
         ended: read == 0,
-        written: io::write_all(STDOUT_FILENO, &answers[0..at]),
-    }
+    })
 }
 
 // The whole input. A proved loop has to end, and nothing says that an input does, so the turns are counted down from a number that no
-// run uses up. The answer is whether all was written.
-fn run_input(
+// run uses up.
+fn run_input<R: Read, W: Write>(
+    reader: &mut R,
+    writer: &mut W,
     vertices: &mut Vertices,
     positions: &mut Positions,
     arcs: &mut Arcs,
@@ -97,28 +101,27 @@ fn run_input(
     f2: &mut Faces,
     line: &mut [u8; HELD],
     out: &mut [u8; ANSWERS],
-) -> bool {
+) -> io::Result<()> {
     let mut held: usize = 0;
     let mut turns = u64::MAX;
     while turns > 0 {
         let done = turn(
-            vertices, positions, arcs, edges, faces, counters, v1, p1, a1, e1, f1, v2, p2, a2, e2,
-            f2, line, held, out,
-        );
-        if !done.written {
-            return false;
-        }
+            reader, writer, vertices, positions, arcs, edges, faces, counters, v1, p1, a1, e1, f1,
+            v2, p2, a2, e2, f2, line, held, out,
+        )?;
         if done.ended {
-            return true;
+            return Ok(());
         }
         held = done.held;
         turns -= 1;
     }
-    true
+    Ok(())
 }
 
-// A whole script on the lent mesh, with working room of its own. The answer is whether all was written.
-pub fn run_script(
+// A whole script on the lent mesh, with working room of its own: read to the reader's end, and its answers written.
+pub fn run_script<R: Read, W: Write>(
+    reader: &mut R,
+    writer: &mut W,
     vertices: &mut Vertices,
     positions: &mut Positions,
     arcs: &mut Arcs,
@@ -126,7 +129,7 @@ pub fn run_script(
     faces: &mut Faces,
     counters: &mut [u32; 3],
     out: &mut [u8; ANSWERS],
-) -> bool {
+) -> io::Result<()> {
     let mut v1 = [[0u32; 2]; 64];
     let mut p1 = [[0.0f64; 3]; 64];
     let mut a1 = [[0u32; 6]; 256];
@@ -139,13 +142,14 @@ pub fn run_script(
     let mut f2 = [[0u32; 3]; 64];
     let mut line = [0u8; HELD];
     run_input(
-        vertices, positions, arcs, edges, faces, counters, &mut v1, &mut p1, &mut a1, &mut e1,
-        &mut f1, &mut v2, &mut p2, &mut a2, &mut e2, &mut f2, &mut line, out,
+        reader, writer, vertices, positions, arcs, edges, faces, counters, &mut v1, &mut p1,
+        &mut a1, &mut e1, &mut f1, &mut v2, &mut p2, &mut a2, &mut e2, &mut f2, &mut line, out,
     )
 }
 
 // The check, and unless it answers 1 the last line, `end` with the counts of vertices, edges, faces.
-pub fn write_end(
+pub fn write_end<W: Write>(
+    writer: &mut W,
     vertices: &Vertices,
     positions: &Positions,
     arcs: &Arcs,
@@ -153,8 +157,8 @@ pub fn write_end(
     faces: &Faces,
     counters: &[u32; 3],
     out: &mut [u8; ANSWERS],
-) {
+) -> io::Result<()> {
     let n = counts::put_counts(vertices, positions, arcs, edges, faces, counters, out);
     let text = &out[..];
-    io::write_all(STDOUT_FILENO, &text[0..n]);
+    writer.write_all(&text[0..n])
 }

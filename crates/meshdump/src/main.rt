@@ -3,13 +3,15 @@
 
 #![tactic(auto)]
 
-use libc::STDOUT_FILENO;
 use listing::{Kind, listed};
 use runs::{ANSWERS, Arcs, Edges, Faces, Positions, Vertices};
 use script::dumps;
+use std::io;
+use std::io::Write;
 
-// All records of a kind. The answer is whether all was written.
-fn write_kind(
+// All records of a kind.
+fn write_kind<W: Write>(
+    writer: &mut W,
     kind: Kind,
     vertices: &Vertices,
     positions: &Positions,
@@ -17,21 +19,26 @@ fn write_kind(
     edges: &Edges,
     faces: &Faces,
     out: &mut [u8; ANSWERS],
-) -> bool {
+) -> io::Result<()> {
     let n = listed::put_records(kind, vertices, positions, arcs, edges, faces, out);
     let text = &out[..];
-    io::write_all(STDOUT_FILENO, &text[0..n])
+    writer.write_all(&text[0..n])
 }
 
 // The counters.
-fn write_counters(counters: [u32; 3], out: &mut [u8; ANSWERS]) -> bool {
+fn write_counters<W: Write>(
+    writer: &mut W,
+    counters: [u32; 3],
+    out: &mut [u8; ANSWERS],
+) -> io::Result<()> {
     let n = dumps::put_counters(out, 0, counters[0], counters[1], counters[2]);
     let text = &out[..];
-    io::write_all(STDOUT_FILENO, &text[0..n])
+    writer.write_all(&text[0..n])
 }
 
 // All records.
-fn write_records(
+fn write_records<W: Write>(
+    writer: &mut W,
     vertices: &Vertices,
     positions: &Positions,
     arcs: &Arcs,
@@ -39,23 +46,63 @@ fn write_records(
     faces: &Faces,
     counters: [u32; 3],
     out: &mut [u8; ANSWERS],
-) -> bool {
-    write_kind(Kind::Vertices, vertices, positions, arcs, edges, faces, out)
-        && write_kind(Kind::Arcs, vertices, positions, arcs, edges, faces, out)
-        && write_kind(Kind::Edges, vertices, positions, arcs, edges, faces, out)
-        && write_kind(Kind::Faces, vertices, positions, arcs, edges, faces, out)
-        && write_counters(counters, out)
+) -> io::Result<()> {
+    write_kind(
+        writer,
+        Kind::Vertices,
+        vertices,
+        positions,
+        arcs,
+        edges,
+        faces,
+        out,
+    )?;
+    write_kind(
+        writer,
+        Kind::Arcs,
+        vertices,
+        positions,
+        arcs,
+        edges,
+        faces,
+        out,
+    )?;
+    write_kind(
+        writer,
+        Kind::Edges,
+        vertices,
+        positions,
+        arcs,
+        edges,
+        faces,
+        out,
+    )?;
+    write_kind(
+        writer,
+        Kind::Faces,
+        vertices,
+        positions,
+        arcs,
+        edges,
+        faces,
+        out,
+    )?;
+    write_counters(writer, counters, out)
 }
 
-fn main() {
+fn main(rt: HostRuntime) -> io::Result<()> {
+    let mut reader = rt.stdin();
+    let mut writer = rt.stdout();
     let mut vertices = [[0u32; 2]; 64];
     let mut positions = [[0.0f64; 3]; 64];
     let mut arcs = [[0u32; 6]; 256];
     let mut edges = [[0u32; 3]; 128];
     let mut faces = [[0u32; 3]; 64];
     let mut counters = [0u32; 3];
-    let mut out = io::large_buffer();
-    if !input::run_script(
+    let mut out = [0u8; ANSWERS];
+    input::run_script(
+        &mut reader,
+        &mut writer,
         &mut vertices,
         &mut positions,
         &mut arcs,
@@ -63,15 +110,25 @@ fn main() {
         &mut faces,
         &mut counters,
         &mut out,
-    ) {
-        return;
-    }
-    if !write_records(
-        &vertices, &positions, &arcs, &edges, &faces, counters, &mut out,
-    ) {
-        return;
-    }
+    )?;
+    write_records(
+        &mut writer,
+        &vertices,
+        &positions,
+        &arcs,
+        &edges,
+        &faces,
+        counters,
+        &mut out,
+    )?;
     input::write_end(
-        &vertices, &positions, &arcs, &edges, &faces, &counters, &mut out,
-    );
+        &mut writer,
+        &vertices,
+        &positions,
+        &arcs,
+        &edges,
+        &faces,
+        &counters,
+        &mut out,
+    )
 }

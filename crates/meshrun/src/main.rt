@@ -3,15 +3,22 @@
 
 #![tactic(auto)]
 
-fn main() {
+use runs::ANSWERS;
+use std::io;
+
+fn main(rt: HostRuntime) -> io::Result<()> {
+    let mut reader = rt.stdin();
+    let mut writer = rt.stdout();
     let mut vertices = [[0u32; 2]; 64];
     let mut positions = [[0.0f64; 3]; 64];
     let mut arcs = [[0u32; 6]; 256];
     let mut edges = [[0u32; 3]; 128];
     let mut faces = [[0u32; 3]; 64];
     let mut counters = [0u32; 3];
-    let mut out = io::large_buffer();
-    if !input::run_script(
+    let mut out = [0u8; ANSWERS];
+    input::run_script(
+        &mut reader,
+        &mut writer,
         &mut vertices,
         &mut positions,
         &mut arcs,
@@ -19,10 +26,15 @@ fn main() {
         &mut faces,
         &mut counters,
         &mut out,
-    ) {
-        return;
-    }
+    )?;
     input::write_end(
-        &vertices, &positions, &arcs, &edges, &faces, &counters, &mut out,
-    );
+        &mut writer,
+        &vertices,
+        &positions,
+        &arcs,
+        &edges,
+        &faces,
+        &counters,
+        &mut out,
+    )
 }

@@ -11,11 +11,12 @@ mod texts; // texts.rt: texts held against each other
 
 ghost use Rattle.std.specs.Prelude.{◌≤◌};
 
-use libc::{STDIN_FILENO, STDOUT_FILENO};
 use listing::{Kind, listed};
 use runs::{ANSWERS, Arcs, CHUNK, Edges, Faces, HELD, Positions, Vertices, counts, gather};
 use script::dumps;
 use stand::Stand;
+use std::io;
+use std::io::Read;
 use tables::sets;
 
 const KEPT: usize = 65536;
@@ -83,24 +84,25 @@ fn print_piece(
 }
 
 // A line that must be printed. The first that is not is told.
-fn compare_line(line: &[u8], out: &[u8], s: Stand) -> Stand {
+fn compare_line(rt: &impl Print, line: &[u8], out: &[u8], s: Stand) -> io::Result<Stand> {
     if s.differs {
-        return s;
+        return Ok(s);
     }
     let next = texts::after_line(out, s.from, s.end, line);
     if next > 0 {
-        return stand::comparing(s, next, s.end, false);
+        return Ok(stand::comparing(s, next, s.end, false));
     }
-    io::write_all(STDOUT_FILENO, b"wanted: ");
-    io::write_all(STDOUT_FILENO, line);
-    io::write_all(STDOUT_FILENO, b"\nprinted: ");
-    texts::print_part(out, s.from, s.end);
-    io::write_all(STDOUT_FILENO, b"\n");
-    stand::comparing(s, s.end, s.end, true)
+    rt.write_all(b"wanted: ")?;
+    rt.write_all(line)?;
+    rt.write_all(b"\nprinted: ")?;
+    texts::print_part(rt, out, s.from, s.end)?;
+    rt.write_all(b"\n")?;
+    Ok(stand::comparing(s, s.end, s.end, true))
 }
 
 // The case's end: a script that differed is printed. The next one begins with empty tables.
 fn end_case(
+    rt: &impl Print,
     vertices: &mut Vertices,
     positions: &mut Positions,
     arcs: &mut Arcs,
@@ -109,19 +111,20 @@ fn end_case(
     counters: &mut [u32; 3],
     kept: &[u8],
     s: Stand,
-) -> Stand {
+) -> io::Result<Stand> {
     sets::zero_set(vertices, positions, arcs, edges, faces);
     *counters = [0; 3];
     if !stand::differs(s) {
-        return stand::ended(s);
+        return Ok(stand::ended(s));
     }
-    io::write_all(STDOUT_FILENO, b"differs:");
-    texts::print_part(kept, 0, s.kept);
-    stand::ended_differing(s)
+    rt.write_all(b"differs:")?;
+    texts::print_part(rt, kept, 0, s.kept)?;
+    Ok(stand::ended_differing(s))
 }
 
 // A whole line of the list.
 fn take_line(
+    rt: &impl Print,
     vertices: &mut Vertices,
     positions: &mut Positions,
     arcs: &mut Arcs,
@@ -132,24 +135,26 @@ fn take_line(
     out: &mut [u8; ANSWERS],
     kept: &mut [u8; KEPT],
     s: Stand,
-) -> Stand {
+) -> io::Result<Stand> {
     if s.kind == b'<' {
-        return compare_line(line, out, s);
+        return compare_line(rt, line, out, s);
     }
     if s.kind == b'=' {
-        return print_piece(
+        return Ok(print_piece(
             vertices, positions, arcs, edges, faces, *counters, line, out, s,
-        );
+        ));
     }
     if s.kind == b'.' {
-        return end_case(vertices, positions, arcs, edges, faces, counters, kept, s);
+        return end_case(
+            rt, vertices, positions, arcs, edges, faces, counters, kept, s,
+        );
     }
     if s.kind == b'#' {
-        return stand::keeping(s, texts::keep(kept, s.kept, line));
+        return Ok(stand::keeping(s, texts::keep(kept, s.kept, line)));
     }
-    run_script_line(
+    Ok(run_script_line(
         vertices, positions, arcs, edges, faces, counters, line, out, kept, s,
-    )
+    ))
 }
 
 // ---- the list as it is read
@@ -165,6 +170,7 @@ fn lesser(a: usize, b: usize) -> usize
 
 // The first byte of a line, or the bytes up to its end or the chunk's.
 fn take_bytes(
+    rt: &impl Print,
     vertices: &mut Vertices,
     positions: &mut Positions,
     arcs: &mut Arcs,
@@ -176,22 +182,23 @@ fn take_bytes(
     out: &mut [u8; ANSWERS],
     kept: &mut [u8; KEPT],
     s: Stand,
-) -> Stand {
+) -> io::Result<Stand> {
     let at = s.next;
     if at >= chunk.len() {
-        return s;
+        return Ok(s);
     }
     if s.kind == 0 {
-        return stand::reading(s, at + 1, chunk[at], 0);
+        return Ok(stand::reading(s, at + 1, chunk[at], 0));
     }
     let gathered = gather::gather(chunk, at, line, lesser(s.held, HELD));
     let next = gathered.next;
     let n = gathered.held;
     if !gathered.ended {
-        return stand::reading(s, next, s.kind, n);
+        return Ok(stand::reading(s, next, s.kind, n));
     }
     let text = &line[..];
     let taken = take_line(
+        rt,
         vertices,
         positions,
         arcs,
@@ -202,12 +209,13 @@ fn take_bytes(
         out,
         kept,
         s,
-    );
-    stand::reading(taken, next, 0, 0)
+    )?;
+    Ok(stand::reading(taken, next, 0, 0))
 }
 
 // A chunk of the list, which is gone through in as many turns as it has bytes, or fewer.
 fn take_chunk(
+    rt: &impl Print,
     vertices: &mut Vertices,
     positions: &mut Positions,
     arcs: &mut Arcs,
@@ -219,23 +227,25 @@ fn take_chunk(
     out: &mut [u8; ANSWERS],
     kept: &mut [u8; KEPT],
     before: Stand,
-) -> Stand {
+) -> io::Result<Stand> {
     let mut s = stand::reading(before, 0, before.kind, before.held);
     let mut turns = chunk.len();
     while turns > 0 {
         s = take_bytes(
-            vertices, positions, arcs, edges, faces, counters, chunk, line, out, kept, s,
-        );
+            rt, vertices, positions, arcs, edges, faces, counters, chunk, line, out, kept, s,
+        )?;
         if s.next >= chunk.len() {
-            return s;
+            return Ok(s);
         }
         turns -= 1;
     }
-    s
+    Ok(s)
 }
 
 // The whole list. A proved loop has to end, so the turns are counted down from a number that no run uses up.
 fn take_input(
+    rt: &impl Print,
+    reader: &mut impl Read,
     vertices: &mut Vertices,
     positions: &mut Positions,
     arcs: &mut Arcs,
@@ -245,17 +255,17 @@ fn take_input(
     line: &mut [u8; HELD],
     out: &mut [u8; ANSWERS],
     kept: &mut [u8; KEPT],
-) -> Stand {
+) -> io::Result<Stand> {
     let mut s = stand::start();
     let mut turns = u64::MAX;
     while turns > 0 {
         let mut chunk = [0u8; CHUNK];
-        let got = libc::read(STDIN_FILENO, &mut chunk);
-        let n = io::count(got, &chunk);
+        let n = reader.read(&mut chunk)?;
         if n == 0 {
-            return s;
+            return Ok(s);
         }
         s = take_chunk(
+            rt,
             vertices,
             positions,
             arcs,
@@ -267,13 +277,14 @@ fn take_input(
             out,
             kept,
             s,
-        );
+        )?;
         turns -= 1;
     }
-    s
+    Ok(s)
 }
 
-fn main() {
+fn main(rt: HostRuntime) -> io::Result<()> {
+    let mut reader = rt.stdin();
     let mut vertices = [[0u32; 2]; 64];
     let mut positions = [[0.0f64; 3]; 64];
     let mut arcs = [[0u32; 6]; 256];
@@ -281,9 +292,11 @@ fn main() {
     let mut faces = [[0u32; 3]; 64];
     let mut counters = [0u32; 3];
     let mut line = [0u8; HELD];
-    let mut out = io::large_buffer();
-    let mut kept = io::large_buffer();
+    let mut out = [0u8; ANSWERS];
+    let mut kept = [0u8; KEPT];
     let s = take_input(
+        &rt,
+        &mut reader,
         &mut vertices,
         &mut positions,
         &mut arcs,
@@ -293,9 +306,6 @@ fn main() {
         &mut line,
         &mut out,
         &mut kept,
-    );
-    io::print_decimal(STDOUT_FILENO, s.cases);
-    io::write_all(STDOUT_FILENO, b" scripts, ");
-    io::print_decimal(STDOUT_FILENO, s.differing);
-    io::write_all(STDOUT_FILENO, b" differ\n");
+    )?;
+    println!(rt; "{} scripts, {} differ", s.cases, s.differing)
 }

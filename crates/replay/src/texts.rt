@@ -1,6 +1,6 @@
 // Texts held against each other, kept, and printed.
 
-use libc::STDOUT_FILENO;
+use std::io;
 
 // The place after the line and its newline, where they stand in the text from a place on and before its end; or else 0.
 pub fn after_line(text: &[u8], from: usize, end: usize, line: &[u8]) -> usize {
@@ -66,12 +66,12 @@ fn keep_byte(kept: &mut [u8], at: usize, byte: u8) -> usize {
 }
 
 // The text from a place to its end.
-pub fn print_part(text: &[u8], from: usize, end: usize) {
+pub fn print_part(rt: &impl Print, text: &[u8], from: usize, end: usize) -> io::Result<()> {
     if end > text.len() {
-        return;
+        return Ok(());
     }
     if from > end {
-        return;
+        return Ok(());
     }
-    io::write_all(STDOUT_FILENO, &text[from..end]);
+    rt.write_all(&text[from..end])
 }

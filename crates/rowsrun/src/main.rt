@@ -6,9 +6,11 @@
 mod print;
 
 use runs::{Arcs, Edges, Faces, Positions, Vertices};
+use std::io;
 
 // A line is run; then it is printed with the rows that are in use.
 fn shown(
+    rt: &impl Print,
     vertices: &mut Vertices,
     positions: &mut Positions,
     arcs: &mut Arcs,
@@ -16,7 +18,7 @@ fn shown(
     faces: &mut Faces,
     counters: &mut [u32; 3],
     line: &[u8],
-) {
+) -> io::Result<()> {
     let mut answer = [0u8; 64];
     asking::ask(
         vertices,
@@ -28,33 +30,35 @@ fn shown(
         line,
         &mut answer,
     );
-    print::after(line);
-    print::edges(edges);
-    print::faces(faces);
+    print::after(rt, line)?;
+    print::edges(rt, edges)?;
+    print::faces(rt, faces)
 }
 
 // Lines that make what the others change.
 fn drawn(
+    rt: &impl Print,
     vertices: &mut Vertices,
     positions: &mut Positions,
     arcs: &mut Arcs,
     edges: &mut Edges,
     faces: &mut Faces,
     counters: &mut [u32; 3],
-) {
+) -> io::Result<()> {
     shown(
-        vertices, positions, arcs, edges, faces, counters, b"v 0 0 0",
-    );
+        rt, vertices, positions, arcs, edges, faces, counters, b"v 0 0 0",
+    )?;
     shown(
-        vertices, positions, arcs, edges, faces, counters, b"v 4 0 0",
-    );
+        rt, vertices, positions, arcs, edges, faces, counters, b"v 4 0 0",
+    )?;
     shown(
-        vertices, positions, arcs, edges, faces, counters, b"v 4 4 0",
-    );
+        rt, vertices, positions, arcs, edges, faces, counters, b"v 4 4 0",
+    )?;
     shown(
-        vertices, positions, arcs, edges, faces, counters, b"v 0 4 0",
-    );
+        rt, vertices, positions, arcs, edges, faces, counters, b"v 0 4 0",
+    )?;
     shown(
+        rt,
         vertices,
         positions,
         arcs,
@@ -62,8 +66,9 @@ fn drawn(
         faces,
         counters,
         b"f 7 0 1 2",
-    );
+    )?;
     shown(
+        rt,
         vertices,
         positions,
         arcs,
@@ -71,10 +76,10 @@ fn drawn(
         faces,
         counters,
         b"f 8 0 2 3",
-    );
+    )
 }
 
-fn main() {
+fn main(rt: HostRuntime) -> io::Result<()> {
     let mut vertices = [[0u32; 2]; 64];
     let mut positions = [[0.0f64; 3]; 64];
     let mut arcs = [[0u32; 6]; 256];
@@ -82,14 +87,16 @@ fn main() {
     let mut faces = [[0u32; 3]; 64];
     let mut counters = [0u32; 3];
     drawn(
+        &rt,
         &mut vertices,
         &mut positions,
         &mut arcs,
         &mut edges,
         &mut faces,
         &mut counters,
-    );
+    )?;
     shown(
+        &rt,
         &mut vertices,
         &mut positions,
         &mut arcs,
@@ -97,8 +104,9 @@ fn main() {
         &mut faces,
         &mut counters,
         b"r 0",
-    );
+    )?;
     shown(
+        &rt,
         &mut vertices,
         &mut positions,
         &mut arcs,
@@ -106,8 +114,9 @@ fn main() {
         &mut faces,
         &mut counters,
         b"f 9 0 1 2",
-    );
+    )?;
     shown(
+        &rt,
         &mut vertices,
         &mut positions,
         &mut arcs,
@@ -115,8 +124,9 @@ fn main() {
         &mut faces,
         &mut counters,
         b"r 1",
-    );
+    )?;
     shown(
+        &rt,
         &mut vertices,
         &mut positions,
         &mut arcs,
@@ -124,8 +134,9 @@ fn main() {
         &mut faces,
         &mut counters,
         b"r 2",
-    );
+    )?;
     shown(
+        &rt,
         &mut vertices,
         &mut positions,
         &mut arcs,
@@ -133,8 +144,9 @@ fn main() {
         &mut faces,
         &mut counters,
         b"f 6 0 1 2 3",
-    );
+    )?;
     shown(
+        &rt,
         &mut vertices,
         &mut positions,
         &mut arcs,
@@ -142,8 +154,9 @@ fn main() {
         &mut faces,
         &mut counters,
         b"s 3 0 2",
-    );
+    )?;
     shown(
+        &rt,
         &mut vertices,
         &mut positions,
         &mut arcs,
@@ -151,5 +164,5 @@ fn main() {
         &mut faces,
         &mut counters,
         b"p 4 3 1 0",
-    );
+    )
 }

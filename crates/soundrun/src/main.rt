@@ -7,9 +7,16 @@
 mod text; // text.rt: the lines of the script
 mod mesh; // mesh.rt: the tables that a line stores into
 
+ghost use Rattle.std.specs.Prelude.{◌≤◌, IfOk, length};
+
 use rules::{ArcRow, EdgeRow, FaceRow, PositionRow, VertexRow};
+use std::io;
+use std::io::Read;
 
 const MOST_LINES: usize = 1000;
+
+// The most bytes of a script.
+const ROOM: usize = 65536;
 
 // The line of the mesh: this one where it starts with =, else the one before.
 fn mesh_line(script: &[u8], at: usize, before: usize) -> usize {
@@ -19,70 +26,88 @@ fn mesh_line(script: &[u8], at: usize, before: usize) -> usize {
     before
 }
 
-fn print_part(script: &[u8], from: usize, end: usize) {
+fn print_part(rt: &impl Print, script: &[u8], from: usize, end: usize) -> io::Result<()> {
     if end > script.len() {
-        return;
+        return Ok(());
     }
     if from > end {
-        return;
+        return Ok(());
     }
-    io::write_all(1, &script[from..end]);
+    rt.write_all(&script[from..end])
 }
 
 // The name of a line without its = and blank, and the answer.
-fn print_line(script: &[u8], at: usize, number: u32) {
+fn print_line(rt: &impl Print, script: &[u8], at: usize, number: u32) -> io::Result<()> {
     print_part(
+        rt,
         script,
         text::name_start(script, at),
         text::name_end(script, at),
-    );
-    io::write_all(1, b": ");
-    io::print_decimal(1, number as u64);
-    io::write_all(1, b"\n");
+    )?;
+    println!(rt; ": {number}")
 }
 
 fn run(
+    rt: &impl Print,
     script: &[u8],
     vertices: &mut [VertexRow],
     positions: &mut [PositionRow],
     arcs: &mut [ArcRow],
     edges: &mut [EdgeRow],
     faces: &mut [FaceRow],
-) {
+) -> io::Result<()> {
     let mut base: usize = 0;
     let mut at: usize = 0;
     let mut i: usize = 0;
     while i < MOST_LINES {
         if at >= script.len() {
-            return;
+            return Ok(());
         }
         base = mesh_line(script, at, base);
         let number = mesh::answer_to(script, base, at, vertices, positions, arcs, edges, faces);
-        print_line(script, at, number);
+        print_line(rt, script, at, number)?;
         at = text::after_line(script, at);
         i += 1;
     }
+    Ok(())
 }
 
-// The script from standard input, into the room that is lent, and the tables that it is run on.
-fn run_input(space: &mut [u8]) {
-    let n = io::read_full(0, space);
+// Reads until the room is full or the input ends; how many bytes were read.
+fn read_full(reader: &mut impl Read, space: &mut [u8]) -> io::Result<usize>
+    ensures { IfOk result (λ n. n ≤ length space.new) }
+{
+    let mut done: usize = 0;
+    while done < space.len() {
+        let n = reader.read(&mut space[done..])?;
+        if n == 0 {
+            break;
+        }
+        done += n;
+    }
+    Ok(done)
+}
+
+// The script from an input, into the room that is lent, and the tables that it is run on.
+fn run_input(rt: &impl Print, reader: &mut impl Read, space: &mut [u8]) -> io::Result<()> {
+    let n = read_full(reader, space)?;
     let mut vertices = [[0u32; 2]; 4097];
     let mut positions = [[0.0; 3]; 4097];
     let mut arcs = [[0u32; 6]; 16386];
     let mut edges = [[0u32; 3]; 8193];
     let mut faces = [[0u32; 3]; 4097];
     run(
+        rt,
         &space[..n],
         &mut vertices,
         &mut positions,
         &mut arcs,
         &mut edges,
         &mut faces,
-    );
+    )
 }
 
-fn main() {
-    let mut space = io::large_buffer();
-    run_input(&mut space);
+fn main(rt: HostRuntime) -> io::Result<()> {
+    let mut reader = rt.stdin();
+    let mut space = [0u8; ROOM];
+    run_input(&rt, &mut reader, &mut space)
 }

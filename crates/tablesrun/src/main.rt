@@ -12,11 +12,13 @@ mod scans;
 mod sets;
 mod vertexlists;
 
-fn main() {
-    scans::run();
-    points::run();
-    rings::run();
-    vertexlists::run();
-    sets::run();
-    records::run();
+use std::io;
+
+fn main(rt: HostRuntime) -> io::Result<()> {
+    scans::run(&rt)?;
+    points::run(&rt)?;
+    rings::run(&rt)?;
+    vertexlists::run(&rt)?;
+    sets::run(&rt)?;
+    records::run(&rt)
 }

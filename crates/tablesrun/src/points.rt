@@ -3,40 +3,49 @@
 
 use crate::say;
 use rules::{Move, Position};
+use std::io;
 use tables::points;
 
-pub fn run() {
-    numbers(1.0, 0.0, 1.0e308);
-    moves(Position {
-        x: 2.0,
-        y: 3.0,
-        z: 0.5,
-    });
+pub fn run(rt: &impl Print) -> io::Result<()> {
+    numbers(rt, 1.0, 0.0, 1.0e308)?;
+    moves(
+        rt,
+        Position {
+            x: 2.0,
+            y: 3.0,
+            z: 0.5,
+        },
+    )
 }
 
 // Ten times a number near the top is infinity, and infinity less infinity is no number.
-fn numbers(one: f64, zero: f64, top: f64) {
+fn numbers(rt: &impl Print, one: f64, zero: f64, top: f64) -> io::Result<()> {
     let infinity = top * 10.0;
-    say::title(b"1, 0, -0, 1e308, infinity, and infinity less infinity");
-    told(one);
-    told(zero);
-    told(-zero);
-    told(top);
-    told(infinity);
-    told(infinity - infinity);
+    say::title(rt, "1, 0, -0, 1e308, infinity, and infinity less infinity")?;
+    told(rt, one)?;
+    told(rt, zero)?;
+    told(rt, -zero)?;
+    told(rt, top)?;
+    told(rt, infinity)?;
+    told(rt, infinity - infinity)
 }
 
-fn told(x: f64) {
-    say::bits(b"bits", x);
-    say::answer(b"finite", points::finite(x));
-    say::answer(b"zero by its bits", points::zero_bits(x));
+fn told(rt: &impl Print, x: f64) -> io::Result<()> {
+    say::bits(rt, "bits", x)?;
+    say::answer(rt, "finite", points::finite(x))?;
+    say::answer(rt, "zero by its bits", points::zero_bits(x))
 }
 
-fn moves(p: Position) {
-    position(b"given", p);
-    position(b"shifted", points::moved(p, Move::Shift(1.0, -3.0, 0.25)));
+fn moves(rt: &impl Print, p: Position) -> io::Result<()> {
+    position(rt, "given", p)?;
     position(
-        b"scaled",
+        rt,
+        "shifted",
+        points::moved(p, Move::Shift(1.0, -3.0, 0.25)),
+    )?;
+    position(
+        rt,
+        "scaled",
         points::moved(
             p,
             Move::Scale {
@@ -46,14 +55,14 @@ fn moves(p: Position) {
                 factor: 2.0,
             },
         ),
-    );
+    )
 }
 
-fn position(asked: &[u8], p: Position) {
-    io::write_all(1, asked);
-    say::bits(b" x", p.x);
-    io::write_all(1, asked);
-    say::bits(b" y", p.y);
-    io::write_all(1, asked);
-    say::bits(b" z", p.z);
+fn position(rt: &impl Print, asked: &str, p: Position) -> io::Result<()> {
+    print!(rt; "{asked}")?;
+    say::bits(rt, " x", p.x)?;
+    print!(rt; "{asked}")?;
+    say::bits(rt, " y", p.y)?;
+    print!(rt; "{asked}")?;
+    say::bits(rt, " z", p.z)
 }

@@ -1,85 +1,60 @@
 // One line of output: what was asked, and what was found; or what follows.
 
 use rules::{Ended, Links};
+use std::io;
 
-pub fn title(of: &[u8]) {
-    io::write_all(1, of);
-    io::write_all(1, b"\n");
+pub fn title(rt: &impl Print, of: &str) -> io::Result<()> {
+    println!(rt; "{of}")
 }
 
-pub fn number(asked: &[u8], found: u32) {
-    io::write_all(1, asked);
-    io::write_all(1, b": ");
-    io::print_decimal(1, found as u64);
-    io::write_all(1, b"\n");
+pub fn number(rt: &impl Print, asked: &str, found: u32) -> io::Result<()> {
+    println!(rt; "{asked}: {found}")
 }
 
 // A number that was found for a link or a key, which is printed before it.
-pub fn number_of(asked: &[u8], of: u32, found: u32) {
-    io::write_all(1, asked);
-    io::print_decimal(1, of as u64);
-    io::write_all(1, b": ");
-    io::print_decimal(1, found as u64);
-    io::write_all(1, b"\n");
+pub fn number_of(rt: &impl Print, asked: &str, of: u32, found: u32) -> io::Result<()> {
+    println!(rt; "{asked}{of}: {found}")
 }
 
-pub fn amount(asked: &[u8], found: usize) {
-    io::write_all(1, asked);
-    io::write_all(1, b": ");
-    io::print_decimal(1, found as u64);
-    io::write_all(1, b"\n");
+pub fn amount(rt: &impl Print, asked: &str, found: usize) -> io::Result<()> {
+    println!(rt; "{asked}: {found}")
 }
 
-pub fn answer(asked: &[u8], found: bool) {
-    io::write_all(1, asked);
+pub fn answer(rt: &impl Print, asked: &str, found: bool) -> io::Result<()> {
     if found {
-        io::write_all(1, b": yes\n");
-        return;
+        return println!(rt; "{asked}: yes");
     }
-    io::write_all(1, b": no\n");
+    println!(rt; "{asked}: no")
 }
 
 // A number by its 64 bits, in hexadecimal: a NaN has no one pattern.
-pub fn bits(asked: &[u8], found: f64) {
-    io::write_all(1, asked);
+pub fn bits(rt: &impl Print, asked: &str, found: f64) -> io::Result<()> {
     if found != found {
-        io::write_all(1, b": not a number\n");
-        return;
+        return println!(rt; "{asked}: not a number");
     }
-    io::write_all(1, b": ");
-    io::print_hex(1, f64::to_bits(found), 16);
-    io::write_all(1, b"\n");
+    println!(rt; "{asked}: {:016x}", f64::to_bits(found))
 }
 
-pub fn end(asked: &[u8], found: Ended) {
-    io::write_all(1, asked);
+pub fn end(rt: &impl Print, asked: &str, found: Ended) -> io::Result<()> {
     match found {
-        Ended::Closed => {
-            io::write_all(1, b": closed\n");
-        }
-        Ended::Open => {
-            io::write_all(1, b": open\n");
-        }
-        Ended::Cut => {
-            io::write_all(1, b": cut off\n");
-        }
+        Ended::Closed => println!(rt; "{asked}: closed"),
+        Ended::Open => println!(rt; "{asked}: open"),
+        Ended::Cut => println!(rt; "{asked}: cut off"),
     }
 }
 
 // Each link of a list, after a space.
-pub fn list(asked: &[u8], found: Links) {
-    io::write_all(1, asked);
-    io::write_all(1, b":");
+pub fn list(rt: &impl Print, asked: &str, found: Links) -> io::Result<()> {
+    print!(rt; "{asked}:")?;
     let n = lists::size(found);
     let mut i: usize = 0;
     while i < n {
-        item(lists::item(found, i));
+        item(rt, lists::item(found, i))?;
         i += 1;
     }
-    io::write_all(1, b"\n");
+    println!(rt; "")
 }
 
-fn item(found: u32) {
-    io::write_all(1, b" ");
-    io::print_decimal(1, found as u64);
+fn item(rt: &impl Print, found: u32) -> io::Result<()> {
+    print!(rt; " {found}")
 }
