@@ -8,7 +8,7 @@ help:
 	@echo 'make run      run meshrun on SCRIPT (default examples/q.script)'
 	@echo 'make test     prove every crate, try the must-fail edits, run every program'
 	@echo 'make names    check that every name in README.md and docs is there (needs python3; make test does it first, where there is one)'
-	@echo 'make wrong    prove every crate and try every must-fail edit, those too that make test leaves out (long)'
+	@echo 'make wrong    try the must-fail edits alone'
 	@echo 'make lib      write target/lib/libullarvesp.a, for C and Rust on x86-64 to link (header: include/ullarvesp.h, crate: rust)'
 	@echo 'make examples build and run the examples in C and Rust, and compare what they print (needs cc, cargo)'
 	@echo 'make compare  run N random scripts (SEED) through meshdump and the Rust of plexus, and compare (needs cargo, python3)'
@@ -42,15 +42,10 @@ names:
 	@python3 docs/check-names
 	@echo 'make names: all that README.md and docs name is there'
 
-# The edits in must-fail-more are of crates that take long to prove. rt tries what stands in must-fail alone, so a copy of the crates has all there.
-# It lies outside the checkout, where rt ci refuses Rattle's files beside crates.
+# The must-fail edits alone.
 wrong:
 	@$(needs_rt)
-	@copy=$$(mktemp -d) && trap 'rm -rf "$$copy"' EXIT && tar -cf - --no-wildcards-match-slash --exclude='crates/*/out' crates crates.txt $(wildcard HANDLES) | tar -xf - -C "$$copy" && \
-	  for edit in "$$copy"/crates/*/must-fail-more/*.edit; do \
-	    crate=$${edit%/must-fail-more/*} && mkdir -p "$$crate/must-fail" && mv -n "$$edit" "$$crate/must-fail/" && [ ! -e "$$edit" ] || exit 1; \
-	  done && \
-	  cd "$$copy" && rt must-fail
+	@rt must-fail
 
 # ---- programs
 
