@@ -5,6 +5,9 @@
 #![tactic(auto)]
 
 ghost use Rattle.std.specs.Prelude.{◌≤◌, IfOk};
+ghost use Rattle.rules.specs.Mesh.{mesh, room};
+ghost use Rattle.script.specs.Texts.{written};
+ghost use Rattle.input.specs.Turning.{LeftBySome};
 
 use runs::{ANSWERS, Arcs, CHUNK, Edges, Faces, HELD, Positions, Vertices, counts, feed};
 use std::io;
@@ -42,7 +45,11 @@ fn turn<R: Read, W: Write>(
     out: &mut [u8; ANSWERS],
 ) -> io::Result<Turned>
     requires { held ≤ 513 }
-    ensures { IfOk result (λ t. t.held ≤ 513) }
+    ensures few { IfOk result (λ t. t.held ≤ 513) }
+    ensures left { LeftBySome (mesh vertices.old positions.old arcs.old edges.old faces.old counters.old) (room v1.old p1.old a1.old e1.old f1.old)
+        (room v2.old p2.old a2.old e2.old f2.old) (written line.old held)
+        (mesh vertices.new positions.new arcs.new edges.new faces.new counters.new) (room v1.new p1.new a1.new e1.new f1.new)
+        (room v2.new p2.new a2.new e2.new f2.new) }
 {
     let mut chunk = [0u8; CHUNK];
     let read = reader.read(&mut chunk)?;
