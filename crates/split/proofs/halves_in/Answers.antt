@@ -10,6 +10,7 @@ use Rattle.edits.specs.Known.{Known}
 use Rattle.edits.proofs.Known.{known-then}
 use Rattle.edits.proofs.Whole.{both-in}
 use Rattle.split.proofs.halves_in.Goals as goal
+use Rattle.split.proofs.halves_in.Goals.{After-perimeter_arcs_near-first, After-perimeter_arcs_near-second, After-put_face_sought}
 
 pub perimeter_arcs_near-first-requires : goal.perimeter_arcs_near-first-requires
 perimeter_arcs_near-first-requires c = c.requires.listed
@@ -17,35 +18,36 @@ perimeter_arcs_near-first-requires c = c.requires.listed
 pub perimeter_arcs_near-second-requires : goal.perimeter_arcs_near-second-requires
 perimeter_arcs_near-second-requires c = c.requires.listed
 
+-- the arcs of both halves, as they are found
+held-right : (c : After-perimeter_arcs_near-second) → let a = c.args in list_of c.perimeter_arcs_near-second.result ≡ arcs_of a.arcs.now (list_of a.right)
+held-right c =
+    let a = c.args in
+    arcs-held a.arcs.now (list_of a.right) c.perimeter_arcs_near-second.result c.known_few-2.ensures c.perimeter_arcs_near-second.ensures
+
 pub put_face_sought-requires : goal.put_face_sought-requires
 put_face_sought-requires c =
-    let held-left : (let a = c.args in list_of c.perimeter_arcs_near-first.result ≡ arcs_of a.arcs.now (list_of a.left)) = (let a = c.args in
-    arcs-held a.arcs.now (list_of a.left) c.perimeter_arcs_near-first.result c.known_few.ensures c.perimeter_arcs_near-first.ensures) in
     let q = c.requires in
     record {
-      found_value = held-left;
+      found_value = arcs-held c.args.arcs.now (list_of c.args.left) c.perimeter_arcs_near-first.result c.known_few.ensures c.perimeter_arcs_near-first.ensures;
       used_before = (q.arcs-used, (q.edges-used, q.faces-used));
     }
 
-pub perimeter_arcs_near-again-requires : goal.perimeter_arcs_near-again-requires
-perimeter_arcs_near-again-requires c =
-    let known-left : (let s = c.before.before.before.before.before.before.before.before.before.before.before.before.before.before.before.before.before.before.before in let g = c.put_face_sought in Known g.new.arcs g.new.edges g.new.faces c.args.seen.now c.args.near.now c.args.around) = (let a = c.args in
+-- what is known after the left half is in
+known-left : (c : After-put_face_sought) → let g = c.put_face_sought in Known g.new.arcs g.new.edges g.new.faces c.args.seen.now c.args.near.now c.args.around
+known-left c =
+    let a = c.args in
     let g = c.put_face_sought in
     let ours = sought_of c.search_lists-ours.result in
     let m : Mesh = mesh a.vertices.now [] a.arcs.now a.edges.now a.faces.now a.counters.now in
     let n : Mesh = mesh g.new.vertices [] g.new.arcs g.new.edges g.new.faces g.new.counters in
-    known-then m n (put_sought ours m (list_of a.left) 0) a.seen.now a.near.now a.around (filled-sought ours m (list_of a.left) 0) (g.ensures []) c.requires) in
-    known-left.listed
+    known-then m n (put_sought ours m (list_of a.left) 0) a.seen.now a.near.now a.around (filled-sought ours m (list_of a.left) 0) (g.ensures []) c.requires
+
+pub perimeter_arcs_near-again-requires : goal.perimeter_arcs_near-again-requires
+perimeter_arcs_near-again-requires c = (known-left c.before.before.before.before).listed
 
 pub put_face_sought-requires-2 : goal.put_face_sought-requires-2
 put_face_sought-requires-2 c =
-    let known-left : (let s = c.before.before.before.before.before.before.before.before.before.before.before.before.before.before.before.before.before.before.before.before.before.before.before.before.before in let g = c.put_face_sought in Known g.new.arcs g.new.edges g.new.faces c.args.seen.now c.args.near.now c.args.around) = (let a = c.args in
-    let g = c.put_face_sought in
-    let ours = sought_of c.search_lists-ours.result in
-    let m : Mesh = mesh a.vertices.now [] a.arcs.now a.edges.now a.faces.now a.counters.now in
-    let n : Mesh = mesh g.new.vertices [] g.new.arcs g.new.edges g.new.faces g.new.counters in
-    known-then m n (put_sought ours m (list_of a.left) 0) a.seen.now a.near.now a.around (filled-sought ours m (list_of a.left) 0) (g.ensures []) c.requires) in
-    let k = known-left in
+    let k = known-left c.before.before.before.before.before.before.before.before.before.before in
     let found = c.perimeter_arcs_near-again in
     record {
       found_value = arcs-held c.put_face_sought.new.arcs (list_of c.args.right) found.result c.known_few-2.ensures found.ensures;
@@ -66,10 +68,6 @@ shape_of-faces c = c.put_face_sought-2.auto.faces ∙ c.put_face_sought.auto.fac
 
 pub returns : goal.returns
 returns c =
-    let held-left : (let a = c.args in list_of c.perimeter_arcs_near-first.result ≡ arcs_of a.arcs.now (list_of a.left)) = (let a = c.args in
-    arcs-held a.arcs.now (list_of a.left) c.perimeter_arcs_near-first.result c.known_few.ensures c.perimeter_arcs_near-first.ensures) in
-    let held-right : (let a = c.args in list_of c.perimeter_arcs_near-second.result ≡ arcs_of a.arcs.now (list_of a.right)) = (let a = c.args in
-    arcs-held a.arcs.now (list_of a.right) c.perimeter_arcs_near-second.result c.known_few-2.ensures c.perimeter_arcs_near-second.ensures) in
     λ p.
     let a = c.args in
     let ours = c.search_lists-ours in
@@ -79,4 +77,4 @@ returns c =
     let m : Mesh = mesh a.vertices.now p a.arcs.now a.edges.now a.faces.now a.counters.now in
     let n : Mesh = mesh g.new.vertices p g.new.arcs g.new.edges g.new.faces g.new.counters in
     let o : Mesh = mesh h.new.vertices p h.new.arcs h.new.edges h.new.faces h.new.counters in
-    both-in m n o (list_of a.left) (list_of a.right) (list_of c.perimeter_arcs_near-first.result) (list_of c.perimeter_arcs_near-second.result) (list_of c.none-none.result) (sought_of ours.result) (sought_of theirs.result) held-left held-right c.none-none.ensures (ours.ensures p a.faces.now a.counters.now) (theirs.ensures p a.faces.now a.counters.now) (g.ensures p) (h.ensures p)
+    both-in m n o (list_of a.left) (list_of a.right) (list_of c.perimeter_arcs_near-first.result) (list_of c.perimeter_arcs_near-second.result) (list_of c.none-none.result) (sought_of ours.result) (sought_of theirs.result) (arcs-held c.args.arcs.now (list_of c.args.left) c.perimeter_arcs_near-first.result c.known_few.ensures c.perimeter_arcs_near-first.ensures) (held-right c.before.before.before.before.before.before.before.before.before.before.before.before.before.before.before.before.before.before.before.before.before.before.before.before) c.none-none.ensures (ours.ensures p a.faces.now a.counters.now) (theirs.ensures p a.faces.now a.counters.now) (g.ensures p) (h.ensures p)

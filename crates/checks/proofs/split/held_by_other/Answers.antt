@@ -11,18 +11,23 @@ use Rattle.checks.proofs.Pairs.{taken}
 use Rattle.pairs.specs.Pairs.{arcs_of}
 use Rattle.pairs.proofs.Listed.{arcs-held}
 use Rattle.checks.proofs.split.held_by_other.Goals as goal
+use Rattle.checks.proofs.split.held_by_other.Goals.{At-loop-i}
 
 pub loop-i-init : goal.loop-i-init
 unfolding some_below
 loop-i-init c = (search rules, λ vs ps es fs ks per e. refl)
 
+-- the list of arcs, at the loop
+held : (l : At-loop-i) → let a = l.args in list_of l.perimeter_arcs-xs.result ≡ arcs_of a.arcs.now (list_of a.per)
+held l =
+    let a = l.args in
+    arcs-held a.arcs.now (list_of a.per) l.perimeter_arcs-xs.result l.known_few.ensures l.perimeter_arcs-xs.ensures
+
 pub returns-then-other_holds : goal.returns-then-other_holds
 unfolding held_by_other
 returns-then-other_holds c =
-    let held : (let a = c.args in list_of c.perimeter_arcs-xs.result ≡ arcs_of a.arcs.now (list_of a.per)) = (let a = c.args in
-    arcs-held a.arcs.now (list_of a.per) c.perimeter_arcs-xs.result c.known_few.ensures c.perimeter_arcs-xs.ensures) in
     let a = c.args in
-    λ vs ps es fs ks. sym (some-here (taken (mesh vs ps a.arcs.now es fs ks) a.f (list_of a.per)) (length (list_of a.per)) c.loop-i.i (omega (arith, c.size-n.ensures)) (sym (c.other_holds.ensures vs ps es fs ks (list_of a.per) held) ∙ c.if-other_holds.true))
+    λ vs ps es fs ks. sym (some-here (taken (mesh vs ps a.arcs.now es fs ks) a.f (list_of a.per)) (length (list_of a.per)) c.loop-i.i (omega (arith, c.size-n.ensures)) (sym (c.other_holds.ensures vs ps es fs ks (list_of a.per) (held c.before.before.before)) ∙ c.if-other_holds.true))
 
 pub loop-i-preserved : goal.loop-i-preserved
 loop-i-preserved c =
@@ -32,8 +37,6 @@ loop-i-preserved c =
 pub returns : goal.returns
 unfolding held_by_other
 returns c =
-    let held : (let a = c.args in list_of c.perimeter_arcs-xs.result ≡ arcs_of a.arcs.now (list_of a.per)) = (let a = c.args in
-    arcs-held a.arcs.now (list_of a.per) c.perimeter_arcs-xs.result c.known_few.ensures c.perimeter_arcs-xs.ensures) in
     let a = c.args in
     let all : c.loop-i.i ≡ length (list_of a.per) = omega (arith, c.size-n.ensures) in
-    λ vs ps es fs ks. sym (rw all at (c.loop-i.invariant.1 vs ps es fs ks (list_of a.per) held))
+    λ vs ps es fs ks. sym (rw all at (c.loop-i.invariant.1 vs ps es fs ks (list_of a.per) (held c.before)))

@@ -6,26 +6,29 @@ use Rattle.nearby.specs.Rings.{held_at, walked_from}
 use Rattle.nearby.proofs.RingTests.{walk-leaves, walk-returns, walk-goes, walk_ends}
 use borrow.Author.Rules.{rules}
 use Rattle.nearby.proofs.rings.walked.Goals as goal
+use Rattle.nearby.proofs.rings.walked.Goals.{Else-not-held_at}
 
 pub returns-then-not-held_at : goal.returns-then-not-held_at
 returns-then-not-held_at c =
     let a = c.args in
     sym (c.loop-k.invariant.1 ∙ walk-leaves a.arcs.now a.g a.first c.loop-k.k c.loop-k.x (search rules) (sym c.held_at.ensures ∙ c.if-not-held_at.true))
 
+-- the arc is on the ring
+held : (c : Else-not-held_at) → held_at c.args.arcs.now c.args.g c.loop-k.x ≡ true
+held c = sym c.held_at.ensures ∙ c.if-not-held_at.false
+
 pub returns-then-x-first : goal.returns-then-x-first
 returns-then-x-first c =
-    let held : (held_at c.args.arcs.now c.args.g c.loop-k.x ≡ true) = (sym c.held_at.ensures ∙ c.if-not-held_at.false) in
     let a = c.args in
-    sym (c.loop-k.invariant.1 ∙ walk-returns a.arcs.now a.g a.first c.loop-k.k c.loop-k.x (search rules) held (sym c.cell6-x.ensures ∙ c.if-x-first.true))
+    sym (c.loop-k.invariant.1 ∙ walk-returns a.arcs.now a.g a.first c.loop-k.k c.loop-k.x (search rules) (held c.before.before) (sym c.cell6-x.ensures ∙ c.if-x-first.true))
 
 pub loop-k-preserved : goal.loop-k-preserved
 loop-k-preserved c =
-    let held : (held_at c.args.arcs.now c.args.g c.loop-k.x ≡ true) = (sym c.held_at.ensures ∙ c.if-not-held_at.false) in
     let a = c.args in
     let y = c.cell6-x.ensures in (
       search rules,
       c.loop-k.invariant.1
-          ∙ walk-goes a.arcs.now a.g a.first c.loop-k.k c.loop-k.x (search rules) held (λ e. c.if-x-first.false (y ∙ e))
+          ∙ walk-goes a.arcs.now a.g a.first c.loop-k.k c.loop-k.x (search rules) (held c.before.before) (λ e. c.if-x-first.false (y ∙ e))
           ∙ ap (walked_from a.arcs.now a.g a.first (64 - (c.loop-k.k + 1))) (sym y),
     )
 
