@@ -4,35 +4,32 @@
 #![tactic(auto)]
 
 ghost use Rattle.std.specs.Prelude.{◌≤◌, length};
+ghost use Rattle.rules.specs.Lent.{SameMesh};
 
-use runs::{Arcs, Edges, Faces, Positions, Vertices, run};
+use rules::{MeshMut, RoomMut};
+use runs::{Tables, run};
 
 // The line's answer stands at the start of the lent bytes.
-pub fn ask(
-    vertices: &mut Vertices,
-    positions: &mut Positions,
-    arcs: &mut Arcs,
-    edges: &mut Edges,
-    faces: &mut Faces,
-    counters: &mut [u32; 3],
-    line: &[u8],
-    out: &mut [u8],
-) -> usize
+pub fn ask(mesh: &mut MeshMut, line: &[u8], out: &mut [u8]) -> usize
     requires { 64 ≤ length out.old }
-    ensures { result ≤ 64 }
+    ensures same { SameMesh mesh.old mesh.new }
+    ensures short { result ≤ 64 }
 {
-    let mut v1 = [[0u32; 2]; 64];
-    let mut p1 = [[0.0f64; 3]; 64];
-    let mut a1 = [[0u32; 6]; 256];
-    let mut e1 = [[0u32; 3]; 128];
-    let mut f1 = [[0u32; 3]; 64];
-    let mut v2 = [[0u32; 2]; 64];
-    let mut p2 = [[0.0f64; 3]; 64];
-    let mut a2 = [[0u32; 6]; 256];
-    let mut e2 = [[0u32; 3]; 128];
-    let mut f2 = [[0u32; 3]; 64];
-    run::run_line(
-        vertices, positions, arcs, edges, faces, counters, &mut v1, &mut p1, &mut a1, &mut e1,
-        &mut f1, &mut v2, &mut p2, &mut a2, &mut e2, &mut f2, line, out, 0,
-    )
+    let mut one = Tables::empty();
+    let mut two = Tables::empty();
+    let mut room1 = RoomMut {
+        vertices: &mut one.vertices,
+        positions: &mut one.positions,
+        arcs: &mut one.arcs,
+        edges: &mut one.edges,
+        faces: &mut one.faces,
+    };
+    let mut room2 = RoomMut {
+        vertices: &mut two.vertices,
+        positions: &mut two.positions,
+        arcs: &mut two.arcs,
+        edges: &mut two.edges,
+        faces: &mut two.faces,
+    };
+    run::run_line(mesh, &mut room1, &mut room2, line, out, 0)
 }

@@ -10,7 +10,6 @@ use lib.Dec.{eqb}
 use borrow.Author.Tests.{eq-eqb, ne_eqb}
 use Rattle.rules.specs.Table.{Table, first_row}
 use Rattle.rules.proofs.Scan.{none_passes, first_passes}
-use Rattle.file.specs.File.{or_nowhere}
 
 -- f rises below n
 abbrev pub Rises : (ℕ → ℕ) → ℕ → Type 0
@@ -79,19 +78,16 @@ module _ (f : ℕ → ℕ) (n k : ℕ) (h : Rises f n) where
 
 -- the first row with a number, in a table whose numbers rise
 module _ (g : List ℕ → ℕ) (rows : Table) (k : ℕ) (h : Rises (λ i. g (get_or rows i [])) (length rows)) where
-  pub found-there : (i : ℕ) → i < length rows → g (get_or rows i []) ≡ k → i + 1 ≡ or_nowhere (first_row (λ r. eqb (g r) k) rows)
-  unfolding or_nowhere
+  pub found-there : (i : ℕ) → i < length rows → g (get_or rows i []) ≡ k → i + 1 ≡ first_row (λ r. eqb (g r) k) rows
   found-there i l e =
       let first : first_row (λ r. eqb (g r) k) rows ≡ suc i =
       first_passes (λ r. eqb (g r) k) rows [] i l
       (λ j q. ne_eqb (g (get_or rows j [])) k (λ d. omega (arith, rises-far (λ i. g (get_or rows i [])) (length rows) h j i q l)))
       (eq-eqb (g (get_or rows i [])) k e) in
-      rw (first, ne_eqb (suc i) 0 (λ z. omega arith)) (omega arith)
+      omega (arith, first)
 
-  pub found_nowhere : ((i : ℕ) → i < length rows → g (get_or rows i []) ≡ k → ⊥) → 16385 ≡ or_nowhere (first_row (λ r. eqb (g r) k) rows)
-  unfolding or_nowhere
-  found_nowhere none =
-      rw (none_passes (λ r. eqb (g r) k) rows [] (λ j l. ne_eqb (g (get_or rows j [])) k (none j l)))
+  pub found_nowhere : ((i : ℕ) → i < length rows → g (get_or rows i []) ≡ k → ⊥) → 0 ≡ first_row (λ r. eqb (g r) k) rows
+  found_nowhere none = sym (none_passes (λ r. eqb (g r) k) rows [] (λ j l. ne_eqb (g (get_or rows j [])) k (none j l)))
 
 -- two tests that agree on every row find the same
 pub first-same : (p q : List ℕ → Bool) (rows : Table) → ((i : ℕ) → i < length rows → p (get_or rows i []) ≡ q (get_or rows i []))

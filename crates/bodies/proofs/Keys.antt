@@ -163,12 +163,16 @@ pub keys-decide : (t : Text) (b : Bool) → placed head_length schema t ≡ b �
 unfolding in_place
 keys-decide t b e = rw e
 
-module _ (bs : List Table) (kind : ℕ) (h : kind < 4) (e : all_rise key_cells bs ≡ all_rise (drop kind key_cells) (drop kind bs)) where
-  pub kind-fails : rising (get_or key_cells kind 0) (get_or bs kind []) ≡ false → false ≡ all_rise key_cells bs
-  kind-fails f = sym (e ∙ rise-more bs kind h ∙ rw f)
+-- the kind at a place, whose number is k
+module _ (bs : List Table) (kind k : ℕ) (h : kind < 4) (q : k ≡ kind) (e : all_rise key_cells bs ≡ all_rise (drop kind key_cells) (drop kind bs)) where
+  more : all_rise key_cells bs ≡ (rising (get_or key_cells k 0) (get_or bs k []) && all_rise (drop (kind + 1) key_cells) (drop (kind + 1) bs))
+  more = rw q (e ∙ rise-more bs kind h)
 
-  pub kind-passes : rising (get_or key_cells kind 0) (get_or bs kind []) ≡ true → all_rise key_cells bs ≡ all_rise (drop (kind + 1) key_cells) (drop (kind + 1) bs)
-  kind-passes f = e ∙ rise-more bs kind h ∙ rw f
+  pub kind-fails : rising (get_or key_cells k 0) (get_or bs k []) ≡ false → false ≡ all_rise key_cells bs
+  kind-fails f = sym (more ∙ rw f)
+
+  pub kind-passes : rising (get_or key_cells k 0) (get_or bs k []) ≡ true → all_rise key_cells bs ≡ all_rise (drop (kind + 1) key_cells) (drop (kind + 1) bs)
+  kind-passes f = more ∙ rw f
 
 -- where keys rise, the numbers of each kind do
 pub numbers-rise : (t : Text) (kind : ℕ) → Whole t → kind < 4 → Rises (number_at t kind) (length (records_in t kind))

@@ -42,15 +42,11 @@ placed-more at kind t h = rw (drop-cons schema kind [] h, next-entry kind t, add
 
 -- ---- 10 and 11, a turn of the loop over the kinds
 
-pub space-kind : (kind k n : ℕ) → kind ≡ k → total (widths k) * n ≡ body_length (widths kind) n
-unfolding body_length
-space-kind kind k n e = ap (λ (j : ℕ). total (widths j) * n) (sym e)
-
-pub asked-step : (t : Text) (kind at n s : ℕ) → kind < 4 → 44 + asked schema t ≡ at + asked (drop kind schema) (entry kind t)
-    → n ≡ count_in (entry kind t) → s ≡ body_length (widths kind) n → 44 + asked schema t ≡ at + s + asked (drop (kind + 1) schema) (entry (kind + 1) t)
-asked-step t kind at n s h e en es =
+pub asked-step : (t : Text) (kind k at n s : ℕ) → kind < 4 → k ≡ kind → 44 + asked schema t ≡ at + asked (drop kind schema) (entry kind t)
+    → n ≡ count_in (entry k t) → s ≡ body_length (widths k) n → 44 + asked schema t ≡ at + s + asked (drop (kind + 1) schema) (entry (kind + 1) t)
+asked-step t kind k at n s h q e en es =
     let more = asked-more kind t h in
-    let same : s ≡ body_length (widths kind) (count_in (entry kind t)) = es ∙ ap (body_length (widths kind)) en in
+    let same : s ≡ body_length (widths kind) (count_in (entry kind t)) = es ∙ rw (en, q) in
     omega arith
 
 none-asked : (kind : ℕ) (t : Text) → kind ≡ 4 → asked (drop kind schema) t ≡ 0
@@ -69,18 +65,19 @@ pub too_short : (t : Text) → length t < 44 → false ≡ length_fits t
 unfolding length_fits
 too_short t h = rw (lt-leb 44 (length t) h)
 
-pub placed-step : (t : Text) (kind at n s : ℕ) → kind < 4 → placed 44 schema t ≡ placed at (drop kind schema) (entry kind t)
-    → offset_in (entry kind t) ≡ at → n ≡ count_in (entry kind t) → s ≡ body_length (widths kind) n
+pub placed-step : (t : Text) (kind k at n s : ℕ) → kind < 4 → k ≡ kind → placed 44 schema t ≡ placed at (drop kind schema) (entry kind t)
+    → offset_in (entry k t) ≡ at → n ≡ count_in (entry k t) → s ≡ body_length (widths k) n
     → placed 44 schema t ≡ placed (at + s) (drop (kind + 1) schema) (entry (kind + 1) t)
-placed-step t kind at n s h e eo en es =
-    let same : s ≡ body_length (widths kind) (count_in (entry kind t)) = es ∙ ap (body_length (widths kind)) en in
+placed-step t kind k at n s h q e eo en es =
+    let same : s ≡ body_length (widths kind) (count_in (entry kind t)) = es ∙ rw (en, q) in
     e ∙ placed-more at kind t h
-    ∙ rw (eq-eqb (offset_in (entry kind t)) at eo)
+    ∙ rw (eq-eqb (offset_in (entry kind t)) at (ap (λ (j : ℕ). offset_in (entry j t)) (sym q) ∙ eo))
     (ap (λ (j : ℕ). placed (at + j) (drop (kind + 1) schema) (entry (kind + 1) t)) (sym same))
 
-pub placed-stop : (t : Text) (kind at : ℕ) → kind < 4 → placed 44 schema t ≡ placed at (drop kind schema) (entry kind t)
-    → (offset_in (entry kind t) ≡ at → ⊥) → false ≡ placed 44 schema t
-placed-stop t kind at h e ne = sym (e ∙ placed-more at kind t h ∙ rw (ne_eqb (offset_in (entry kind t)) at ne))
+pub placed-stop : (t : Text) (kind k at : ℕ) → kind < 4 → k ≡ kind → placed 44 schema t ≡ placed at (drop kind schema) (entry kind t)
+    → (offset_in (entry k t) ≡ at → ⊥) → false ≡ placed 44 schema t
+placed-stop t kind k at h q e ne =
+    sym (e ∙ placed-more at kind t h ∙ rw (ne_eqb (offset_in (entry kind t)) at (λ o. ne (ap (λ (j : ℕ). offset_in (entry j t)) q ∙ o))))
 
 pub placed_end : (t : Text) (kind at : ℕ) → kind ≡ 4 → placed 44 schema t ≡ placed at (drop kind schema) (entry kind t) → true ≡ placed 44 schema t
 unfolding placed

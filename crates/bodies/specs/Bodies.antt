@@ -1,6 +1,8 @@
 -- Where a file's records stand, and a record's key as one number: what the functions that read a file are stated with (request L3).
 use Prim.Native.Nat.{ℕ, ◌+◌, ◌*◌, ◌<◌}
-use mathlib.Core.Bool.{Bool, cond}
+use mathlib.Core.Bool.{Bool, true, false, cond}
+use Rattle.std.specs.Coded.{Unit-prop}
+use Rattle.std.specs.Prelude.{Option, None, Some}
 use mathlib.Core.List.{List, []}
 use lib.ListN.{length, get_or, drop}
 use lib.Dec.{T, eqb}
@@ -37,6 +39,20 @@ pub record Laid (t : Text) : Type 0 where
   pub fits : T (length_fits t)
   pub stands : T (placed head_length schema t)
 
+-- at most one proof of it
+pub T_prop : (b : Bool) → IsProp (T b)
+T_prop true = Unit-prop
+T_prop false = λ x. absurd x
+
+pub laid_prop : (t : Text) → IsProp (Laid t)
+laid_prop t x y =
+    λ i.
+    record {
+      bytes = T_prop (bytes_only t) x.bytes y.bytes i;
+      fits = T_prop (length_fits t) x.fits y.fits i;
+      stands = T_prop (placed head_length schema t) x.stands y.stands i;
+    }
+
 -- such a text has a record i of that kind
 pub record Holds (t : Text) (kind i : ℕ) : Type 0 where
   pub laid : Laid t
@@ -47,3 +63,8 @@ pub record Holds (t : Text) (kind i : ℕ) : Type 0 where
 pub record Whole (t : Text) : Type 0 where
   pub laid : Laid t
   pub in_place : T (in_place t)
+
+-- the link of a place that was found: none where it was not
+abbrev pub link_of : Option ℕ → ℕ
+link_of None = 0
+link_of (Some i) = i + 1

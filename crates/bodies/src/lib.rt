@@ -4,6 +4,7 @@
 #![tactic(auto)]
 
 pub mod cells;
+pub mod kinds;
 pub mod layout;
 pub mod records;
 pub mod search;

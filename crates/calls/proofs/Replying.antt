@@ -1,6 +1,6 @@
 -- An answer told in numbers, beside what the call left.
 use mathlib.Core.Path.{◌≡◌, ap, ◌∙◌}
-use Rattle.rules.specs.declared.Answer.{Answer}
+use Rattle.rules.specs.Answer.{Answer}
 use Rattle.rules.specs.declared.Reply.{Reply}
 use Rattle.rules.specs.Mesh.{Mesh, Room}
 use Rattle.rules.specs.Step.{told}

@@ -5,9 +5,8 @@ ghost use Rattle.rules.specs.Call as Calls;
 ghost use Rattle.calls.specs.Replied.{shown, replied};
 ghost use Rattle.rules.specs.Mesh.{mesh, room};
 
-use mesh::call;
-use rules::{ArcRow, Call, EdgeRow, Edit, FaceRow, PositionRow, Reply, VertexRow};
-use tables::answers;
+use crate::changing::changed;
+use rules::{ArcRow, EdgeRow, Edit, FaceRow, MeshMut, PositionRow, Reply, RoomMut, VertexRow};
 
 // Bridge of the arcs (a,b) and (c,d): the reply has the face.
 #[unsafe(no_mangle)]
@@ -38,27 +37,33 @@ pub extern "C" fn ul_arc_bridge(
         (Calls.arc_bridge_call (mesh vertices.old positions.old arcs.old edges.old faces.old counters.old) (room v1.old p1.old a1.old e1.old f1.old)
         (room v2.old p2.old a2.old e2.old f2.old) a b c d) }
 {
-    let edit = Edit::ArcBridge(a, b, c, d);
-    let call = Call { edit };
-    let none = [0u32; 1];
-    answers::told(call::change(
+    let mut mesh = MeshMut {
         vertices,
         positions,
         arcs,
         edges,
         faces,
         counters,
-        v1,
-        p1,
-        a1,
-        e1,
-        f1,
-        v2,
-        p2,
-        a2,
-        e2,
-        f2,
-        call,
-        &none[0..0],
-    ))
+    };
+    let mut one = RoomMut {
+        vertices: v1,
+        positions: p1,
+        arcs: a1,
+        edges: e1,
+        faces: f1,
+    };
+    let mut two = RoomMut {
+        vertices: v2,
+        positions: p2,
+        arcs: a2,
+        edges: e2,
+        faces: f2,
+    };
+    changed(
+        &mut mesh,
+        &mut one,
+        &mut two,
+        Edit::ArcBridge(a, b, c, d),
+        &[],
+    )
 }

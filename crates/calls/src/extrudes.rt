@@ -6,9 +6,10 @@ ghost use Rattle.rules.specs.Call as Calls;
 ghost use Rattle.calls.specs.Replied.{shown, replied};
 ghost use Rattle.rules.specs.Mesh.{mesh, room};
 
-use mesh::call;
-use rules::{ArcRow, Call, EdgeRow, Edit, FaceRow, Move, PositionRow, Reply, VertexRow};
-use tables::answers;
+use crate::changing::changed;
+use rules::{
+    ArcRow, EdgeRow, Edit, FaceRow, MeshMut, Move, PositionRow, Reply, RoomMut, VertexRow,
+};
 
 // Extrude of a face by a shift: the reply has the top face.
 #[unsafe(no_mangle)]
@@ -40,29 +41,35 @@ pub extern "C" fn ul_face_extrude_shift(
         (Shift dx dy dz)) }
 {
     let by = Move::Shift(dx, dy, dz);
-    let edit = Edit::FaceExtrude(face, by);
-    let call = Call { edit };
-    let none = [0u32; 1];
-    answers::told(call::change(
+    let mut mesh = MeshMut {
         vertices,
         positions,
         arcs,
         edges,
         faces,
         counters,
-        v1,
-        p1,
-        a1,
-        e1,
-        f1,
-        v2,
-        p2,
-        a2,
-        e2,
-        f2,
-        call,
-        &none[0..0],
-    ))
+    };
+    let mut one = RoomMut {
+        vertices: v1,
+        positions: p1,
+        arcs: a1,
+        edges: e1,
+        faces: f1,
+    };
+    let mut two = RoomMut {
+        vertices: v2,
+        positions: p2,
+        arcs: a2,
+        edges: e2,
+        faces: f2,
+    };
+    changed(
+        &mut mesh,
+        &mut one,
+        &mut two,
+        Edit::FaceExtrude(face, by),
+        &[],
+    )
 }
 
 // Extrude of a face by a scale about a point: the reply has the top face.
@@ -96,29 +103,35 @@ pub extern "C" fn ul_face_extrude_scale(
         (Scale ox oy oz factor)) }
 {
     let by = Move::Scale { ox, oy, oz, factor };
-    let edit = Edit::FaceExtrude(face, by);
-    let call = Call { edit };
-    let none = [0u32; 1];
-    answers::told(call::change(
+    let mut mesh = MeshMut {
         vertices,
         positions,
         arcs,
         edges,
         faces,
         counters,
-        v1,
-        p1,
-        a1,
-        e1,
-        f1,
-        v2,
-        p2,
-        a2,
-        e2,
-        f2,
-        call,
-        &none[0..0],
-    ))
+    };
+    let mut one = RoomMut {
+        vertices: v1,
+        positions: p1,
+        arcs: a1,
+        edges: e1,
+        faces: f1,
+    };
+    let mut two = RoomMut {
+        vertices: v2,
+        positions: p2,
+        arcs: a2,
+        edges: e2,
+        faces: f2,
+    };
+    changed(
+        &mut mesh,
+        &mut one,
+        &mut two,
+        Edit::FaceExtrude(face, by),
+        &[],
+    )
 }
 
 // Extrude of the arc (s,d) by a shift: the reply has the new arc.
@@ -152,29 +165,35 @@ pub extern "C" fn ul_arc_extrude_shift(
         (Shift dx dy dz)) }
 {
     let by = Move::Shift(dx, dy, dz);
-    let edit = Edit::ArcExtrude(s, d, by);
-    let call = Call { edit };
-    let none = [0u32; 1];
-    answers::told(call::change(
+    let mut mesh = MeshMut {
         vertices,
         positions,
         arcs,
         edges,
         faces,
         counters,
-        v1,
-        p1,
-        a1,
-        e1,
-        f1,
-        v2,
-        p2,
-        a2,
-        e2,
-        f2,
-        call,
-        &none[0..0],
-    ))
+    };
+    let mut one = RoomMut {
+        vertices: v1,
+        positions: p1,
+        arcs: a1,
+        edges: e1,
+        faces: f1,
+    };
+    let mut two = RoomMut {
+        vertices: v2,
+        positions: p2,
+        arcs: a2,
+        edges: e2,
+        faces: f2,
+    };
+    changed(
+        &mut mesh,
+        &mut one,
+        &mut two,
+        Edit::ArcExtrude(s, d, by),
+        &[],
+    )
 }
 
 // Extrude of the arc (s,d) by a scale about a point: the reply has the new arc.
@@ -209,27 +228,33 @@ pub extern "C" fn ul_arc_extrude_scale(
         (Scale ox oy oz factor)) }
 {
     let by = Move::Scale { ox, oy, oz, factor };
-    let edit = Edit::ArcExtrude(s, d, by);
-    let call = Call { edit };
-    let none = [0u32; 1];
-    answers::told(call::change(
+    let mut mesh = MeshMut {
         vertices,
         positions,
         arcs,
         edges,
         faces,
         counters,
-        v1,
-        p1,
-        a1,
-        e1,
-        f1,
-        v2,
-        p2,
-        a2,
-        e2,
-        f2,
-        call,
-        &none[0..0],
-    ))
+    };
+    let mut one = RoomMut {
+        vertices: v1,
+        positions: p1,
+        arcs: a1,
+        edges: e1,
+        faces: f1,
+    };
+    let mut two = RoomMut {
+        vertices: v2,
+        positions: p2,
+        arcs: a2,
+        edges: e2,
+        faces: f2,
+    };
+    changed(
+        &mut mesh,
+        &mut one,
+        &mut two,
+        Edit::ArcExtrude(s, d, by),
+        &[],
+    )
 }

@@ -6,9 +6,10 @@ ghost use Rattle.rules.specs.Call as Calls;
 ghost use Rattle.calls.specs.Replied.{shown, replied};
 ghost use Rattle.rules.specs.Mesh.{mesh, room};
 
-use mesh::call;
-use rules::{ArcRow, Call, EdgeRow, Edit, FaceRow, Position, PositionRow, Reply, VertexRow};
-use tables::answers;
+use crate::changing::changed;
+use rules::{
+    ArcRow, EdgeRow, Edit, FaceRow, MeshMut, Position, PositionRow, Reply, RoomMut, VertexRow,
+};
 
 // Face insert of these keys with a mark.
 #[unsafe(no_mangle)]
@@ -37,12 +38,29 @@ pub extern "C" fn ul_face_insert(
         (Calls.face_insert (mesh vertices.old positions.old arcs.old edges.old faces.old counters.old) (room v1.old p1.old a1.old e1.old f1.old) (room v2.old p2.old a2.old e2.old f2.old)
         keys.now mark) }
 {
-    let edit = Edit::FaceInsert(mark);
-    let call = Call { edit };
-    answers::told(call::change(
-        vertices, positions, arcs, edges, faces, counters, v1, p1, a1, e1, f1, v2, p2, a2, e2, f2,
-        call, keys,
-    ))
+    let mut mesh = MeshMut {
+        vertices,
+        positions,
+        arcs,
+        edges,
+        faces,
+        counters,
+    };
+    let mut one = RoomMut {
+        vertices: v1,
+        positions: p1,
+        arcs: a1,
+        edges: e1,
+        faces: f1,
+    };
+    let mut two = RoomMut {
+        vertices: v2,
+        positions: p2,
+        arcs: a2,
+        edges: e2,
+        faces: f2,
+    };
+    changed(&mut mesh, &mut one, &mut two, Edit::FaceInsert(mark), keys)
 }
 
 // Face remove: the reply has its mark.
@@ -70,29 +88,29 @@ pub extern "C" fn ul_face_remove(
         ≡ replied
         (Calls.face_remove (mesh vertices.old positions.old arcs.old edges.old faces.old counters.old) (room v1.old p1.old a1.old e1.old f1.old) (room v2.old p2.old a2.old e2.old f2.old) face) }
 {
-    let edit = Edit::FaceRemove(face);
-    let call = Call { edit };
-    let none = [0u32; 1];
-    answers::told(call::change(
+    let mut mesh = MeshMut {
         vertices,
         positions,
         arcs,
         edges,
         faces,
         counters,
-        v1,
-        p1,
-        a1,
-        e1,
-        f1,
-        v2,
-        p2,
-        a2,
-        e2,
-        f2,
-        call,
-        &none[0..0],
-    ))
+    };
+    let mut one = RoomMut {
+        vertices: v1,
+        positions: p1,
+        arcs: a1,
+        edges: e1,
+        faces: f1,
+    };
+    let mut two = RoomMut {
+        vertices: v2,
+        positions: p2,
+        arcs: a2,
+        edges: e2,
+        faces: f2,
+    };
+    changed(&mut mesh, &mut one, &mut two, Edit::FaceRemove(face), &[])
 }
 
 // Split of a face from s to d: the reply has the arc.
@@ -122,29 +140,35 @@ pub extern "C" fn ul_face_split(
         ≡ replied
         (Calls.face_split (mesh vertices.old positions.old arcs.old edges.old faces.old counters.old) (room v1.old p1.old a1.old e1.old f1.old) (room v2.old p2.old a2.old e2.old f2.old) face s d) }
 {
-    let edit = Edit::FaceSplit(face, s, d);
-    let call = Call { edit };
-    let none = [0u32; 1];
-    answers::told(call::change(
+    let mut mesh = MeshMut {
         vertices,
         positions,
         arcs,
         edges,
         faces,
         counters,
-        v1,
-        p1,
-        a1,
-        e1,
-        f1,
-        v2,
-        p2,
-        a2,
-        e2,
-        f2,
-        call,
-        &none[0..0],
-    ))
+    };
+    let mut one = RoomMut {
+        vertices: v1,
+        positions: p1,
+        arcs: a1,
+        edges: e1,
+        faces: f1,
+    };
+    let mut two = RoomMut {
+        vertices: v2,
+        positions: p2,
+        arcs: a2,
+        edges: e2,
+        faces: f2,
+    };
+    changed(
+        &mut mesh,
+        &mut one,
+        &mut two,
+        Edit::FaceSplit(face, s, d),
+        &[],
+    )
 }
 
 // Poke of a face at a position: the reply has the new vertex.
@@ -177,29 +201,35 @@ pub extern "C" fn ul_face_poke(
         (position x y z)) }
 {
     let position = Position { x, y, z };
-    let edit = Edit::FacePoke(face, position);
-    let call = Call { edit };
-    let none = [0u32; 1];
-    answers::told(call::change(
+    let mut mesh = MeshMut {
         vertices,
         positions,
         arcs,
         edges,
         faces,
         counters,
-        v1,
-        p1,
-        a1,
-        e1,
-        f1,
-        v2,
-        p2,
-        a2,
-        e2,
-        f2,
-        call,
-        &none[0..0],
-    ))
+    };
+    let mut one = RoomMut {
+        vertices: v1,
+        positions: p1,
+        arcs: a1,
+        edges: e1,
+        faces: f1,
+    };
+    let mut two = RoomMut {
+        vertices: v2,
+        positions: p2,
+        arcs: a2,
+        edges: e2,
+        faces: f2,
+    };
+    changed(
+        &mut mesh,
+        &mut one,
+        &mut two,
+        Edit::FacePoke(face, position),
+        &[],
+    )
 }
 
 // Bridge of two faces.
@@ -229,27 +259,33 @@ pub extern "C" fn ul_face_bridge(
         (Calls.face_bridge (mesh vertices.old positions.old arcs.old edges.old faces.old counters.old) (room v1.old p1.old a1.old e1.old f1.old)
         (room v2.old p2.old a2.old e2.old f2.old) source destination) }
 {
-    let edit = Edit::FaceBridge(source, destination);
-    let call = Call { edit };
-    let none = [0u32; 1];
-    answers::told(call::change(
+    let mut mesh = MeshMut {
         vertices,
         positions,
         arcs,
         edges,
         faces,
         counters,
-        v1,
-        p1,
-        a1,
-        e1,
-        f1,
-        v2,
-        p2,
-        a2,
-        e2,
-        f2,
-        call,
-        &none[0..0],
-    ))
+    };
+    let mut one = RoomMut {
+        vertices: v1,
+        positions: p1,
+        arcs: a1,
+        edges: e1,
+        faces: f1,
+    };
+    let mut two = RoomMut {
+        vertices: v2,
+        positions: p2,
+        arcs: a2,
+        edges: e2,
+        faces: f2,
+    };
+    changed(
+        &mut mesh,
+        &mut one,
+        &mut two,
+        Edit::FaceBridge(source, destination),
+        &[],
+    )
 }

@@ -5,7 +5,7 @@ ghost use Rattle.rules.specs.Step.{told};
 ghost use Rattle.rules.specs.Call.{check_mesh, face_arity};
 ghost use Rattle.rules.specs.Mesh.{mesh};
 
-use rules::{ArcRow, EdgeRow, FaceRow, PositionRow, Reply, VertexRow};
+use rules::{ArcRow, EdgeRow, FaceRow, MeshRef, PositionRow, Reply, Told, VertexRow};
 use tables::answers;
 
 #[unsafe(no_mangle)]
@@ -19,7 +19,15 @@ pub extern "C" fn ul_check(
 ) -> Reply
     ensures { result ≡ told (check_mesh (mesh vertices.now positions.now arcs.now edges.now faces.now counters.now)) }
 {
-    answers::told(sound::queries::check_mesh(vertices, positions, arcs, edges, faces, counters))
+    let mesh = MeshRef {
+        vertices,
+        positions,
+        arcs,
+        edges,
+        faces,
+        counters,
+    };
+    answers::told(sound::queries::check_mesh(mesh).map(|()| Told::Done))
 }
 
 #[unsafe(no_mangle)]
@@ -34,7 +42,13 @@ pub extern "C" fn ul_face_arity(
 ) -> Reply
     ensures { result ≡ told (face_arity (mesh vertices.now positions.now arcs.now edges.now faces.now counters.now) face) }
 {
-    answers::told(sound::queries::face_arity(
-        vertices, positions, arcs, edges, faces, counters, face,
-    ))
+    let mesh = MeshRef {
+        vertices,
+        positions,
+        arcs,
+        edges,
+        faces,
+        counters,
+    };
+    answers::told(sound::queries::face_arity(mesh, face).map(Told::Arity))
 }

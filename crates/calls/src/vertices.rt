@@ -6,9 +6,10 @@ ghost use Rattle.rules.specs.Call as Calls;
 ghost use Rattle.calls.specs.Replied.{shown, replied};
 ghost use Rattle.rules.specs.Mesh.{mesh, room};
 
-use mesh::call;
-use rules::{ArcRow, Call, EdgeRow, Edit, FaceRow, Position, PositionRow, Reply, VertexRow};
-use tables::answers;
+use crate::changing::changed;
+use rules::{
+    ArcRow, EdgeRow, Edit, FaceRow, MeshMut, Position, PositionRow, Reply, RoomMut, VertexRow,
+};
 
 // Document 01's vertex insert.
 #[unsafe(no_mangle)]
@@ -39,27 +40,33 @@ pub extern "C" fn ul_vertex_insert(
         (position x y z)) }
 {
     let position = Position { x, y, z };
-    let edit = Edit::VertexInsert(position);
-    let call = Call { edit };
-    let none = [0u32; 1];
-    answers::told(call::change(
+    let mut mesh = MeshMut {
         vertices,
         positions,
         arcs,
         edges,
         faces,
         counters,
-        v1,
-        p1,
-        a1,
-        e1,
-        f1,
-        v2,
-        p2,
-        a2,
-        e2,
-        f2,
-        call,
-        &none[0..0],
-    ))
+    };
+    let mut one = RoomMut {
+        vertices: v1,
+        positions: p1,
+        arcs: a1,
+        edges: e1,
+        faces: f1,
+    };
+    let mut two = RoomMut {
+        vertices: v2,
+        positions: p2,
+        arcs: a2,
+        edges: e2,
+        faces: f2,
+    };
+    changed(
+        &mut mesh,
+        &mut one,
+        &mut two,
+        Edit::VertexInsert(position),
+        &[],
+    )
 }

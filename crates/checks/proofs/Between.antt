@@ -2,11 +2,12 @@
 use Prim.Native.Nat.{ℕ, ◌-◌}
 use native.Mathlib.Omega.{arith}
 use mathlib.Core.Path.{◌≡◌, refl, ap, ◌∙◌}
-use mathlib.Core.Bool.{Bool, true, false, cond, ◌&&◌}
+use mathlib.Core.Bool.{Bool, true, false, cond, ◌&&◌, ◌||◌}
+use mathlib.Core.Logic.{◌⊎◌, inl, inr}
 use mathlib.Core.List.{List, [], ◌∷◌}
 use lib.ListN.{length, get_or}
 use lib.Dec.{eqb, leb}
-use borrow.Author.Tests.{eqb-true, ne_eqb}
+use borrow.Author.Tests.{eqb-true, eq-eqb, ne_eqb}
 use Rattle.rules.specs.Table.{Table, cell, first_row, row_limit}
 use Rattle.rules.specs.Mesh.{Mesh, joins, find_key, arc_between, links_of, list_of}
 use Rattle.rules.specs.Edit.{corners}
@@ -42,6 +43,11 @@ found-ends t a b n = go (eqb a 0) (leb (length t) row_limit) n
     go true l ne = absurd (ne refl)
     go false true ne = row ne
     go false false ne = absurd (ne refl)
+
+-- one of two arcs is missing
+pub missing : (x y : ℕ) → (x ≡ 0) ⊎ ((x ≡ 0 → ⊥) × (y ≡ 0)) → (eqb x 0 || eqb y 0) ≡ true
+missing x y (inl e) = rw (eq-eqb x 0 e)
+missing x y (inr e) = rw (ne_eqb x 0 e.0, eq-eqb y 0 e.1)
 
 -- ---- four vertices
 

@@ -1,48 +1,45 @@
--- Rows counted from the end of a table: what the loops of `free` keep.
-use Prim.Native.Nat.{ℕ, zero, suc, ◌+◌, ◌-◌, ◌≤◌, ◌<◌}
+-- Free rows counted from the end of a table, and no further than the need: whether there are enough.
+use Prim.Native.Nat.{ℕ, ◌+◌, ◌≤◌}
 use native.Mathlib.Omega.{arith}
-use native.Mathlib.Numerals.{add-one}
-use mathlib.Core.Path.{◌≡◌, ap, sym, ◌∙◌}
-use mathlib.Core.Bool.{Bool, true, false}
-use mathlib.Core.List.{List}
-use lib.ListN.{length, get_or, drop, drop_of_length-le}
-use lib.Seq.{drop-cons}
-use lib.Dec.{leb}
-use borrow.Author.Tests.{lt-leb, le-leb}
+use native.Mathlib.Decide.{dec_le}
+use mathlib.Core.Path.{◌≡◌, refl, ap, ◌∙◌}
+use mathlib.Core.Bool.{Bool, true, false, cond}
+use mathlib.Core.List.{List, [], ◌∷◌, ◌++◌, reverse}
+use lib.ListN.{length, take, length-take}
+use lib.Dec.{eqb, leb}
+use borrow.Author.Tests.{eq-eqb, ne_eqb, lt-leb, le-leb}
+use Rattle.std.specs.List.{filter}
+use Rattle.std.proofs.lemmas.List.{reverse-append}
 use Rattle.rules.specs.Table.{count}
 use Rattle.rules.proofs.Counts.{bit, count-cons}
 
-module _ {ℓ} {A : Type ℓ} (p : A → Bool) (t : List A) (d : A) where
-  -- of the rows needed so many are left to find, and the rows from i on have the others
-  abbrev pub Left : ℕ → ℕ → ℕ → Type 0
-  Left need left i = left + count p (drop i t) ≡ need
+module _ {A : Type 0} (p : A → Bool) where
+  pick : (b : Bool) (x : A) (xs : List A) → length (cond b (x ∷ xs) xs) ≡ length xs + bit b
+  pick true x xs = omega arith
+  pick false x xs = omega arith
 
-  count-on : (i : ℕ) → i < length t → count p (drop i t) ≡ count p (drop (i + 1) t) + bit (p (get_or t i d))
-  count-on i l = rw (drop-cons t i d, add-one) (count-cons p (get_or t i d) (drop (suc i) t))
-
-  pub left-all : (need : ℕ) → Left need need (length t)
+  passing : (xs : List A) → length (filter p xs) ≡ count p xs
   unfolding count
-  left-all need = let l : length t ≤ length t = omega arith in rw (drop_of_length-le t l) (omega arith)
+  passing [] = refl
+  passing (x ∷ xs) = omega (arith, pick (p x) x (filter p xs), passing xs, count-cons p x xs)
 
-  -- one row further up
-  count-up : (i : ℕ) → 1 ≤ i → i ≤ length t → count p (drop (i - 1) t) ≡ count p (drop i t) + bit (p (get_or t (i - 1) d))
-  count-up i s l =
-      let e : i - 1 + 1 ≡ i = omega arith in
-      count-on (i - 1) (omega arith) ∙ ap (λ (k : ℕ). count p (drop k t) + bit (p (get_or t (i - 1) d))) e
+  count_append : (xs ys : List A) → count p (xs ++ ys) ≡ count p xs + count p ys
+  unfolding count
+  count_append [] ys = omega arith
+  count_append (x ∷ xs) ys = omega (arith, count-cons p x xs, count-cons p x (xs ++ ys), count_append xs ys)
 
-  pub left_one : (need left i : ℕ) → 1 ≤ i → i ≤ length t → 1 ≤ left → p (get_or t (i - 1) d) ≡ true → Left need left i → Left need (left - 1) (i - 1)
-  left_one need left i o l s e h = omega (arith, count-up i o l, ap bit e)
+  backwards : (xs : List A) → count p (reverse xs) ≡ count p xs
+  unfolding count
+  backwards [] = refl
+  backwards (x ∷ xs) =
+      omega (arith, ap (count p) (reverse-append (x ∷ []) xs), count_append (reverse xs) (x ∷ []), count-cons p x [], count-cons p x xs, backwards xs)
 
-  pub left-same : (need left i : ℕ) → 1 ≤ i → i ≤ length t → p (get_or t (i - 1) d) ≡ false → Left need left i → Left need left (i - 1)
-  left-same need left i o l e h = omega (arith, count-up i o l, ap bit e)
+  pub enough_told : (t : List A) (need n : ℕ) → n ≡ length (take need (filter p (reverse t))) → eqb n need ≡ leb need (count p t)
+  enough_told t need n e = go (dec_le need (count p t))
+    where
+      all : length (filter p (reverse t)) ≡ count p t
+      all = passing (reverse t) ∙ backwards t
 
-  on-all : (i : ℕ) → i ≤ length t → count p (drop i t) ≤ count p t
-  on-all zero l = omega arith
-  on-all (suc i) l = omega (arith, on-all i (omega arith), count-on i (omega arith), ap (λ (k : ℕ). count p (drop k t)) (add-one i))
-
-  -- all found, or no row left
-  pub found_all : (need left i : ℕ) → i ≤ length t → left ≤ 0 → Left need left i → true ≡ leb need (count p t)
-  found_all need left i l z h = sym (le-leb need (count p t) (omega (arith, on-all i l)))
-
-  pub too_few : (need left : ℕ) → 1 ≤ left → Left need left 0 → false ≡ leb need (count p t)
-  too_few need left s h = sym (lt-leb need (count p t) (omega arith))
+      go : Dec (need ≤ count p t) → eqb n need ≡ leb need (count p t)
+      go (yes h) = rw (le-leb need (count p t) h, eq-eqb n need (omega (arith, e, all, length-take need (filter p (reverse t)))))
+      go (no h) = rw (lt-leb need (count p t) (omega arith), ne_eqb n need (omega (arith, e, all, length-take need (filter p (reverse t)))))

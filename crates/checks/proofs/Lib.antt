@@ -5,5 +5,7 @@ pub mod Bounds
 pub mod Stretches
 pub mod Splits
 pub mod Ends
+pub mod Slices
 pub mod Named
 pub mod Most
+pub mod Moves

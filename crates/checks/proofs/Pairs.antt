@@ -1,8 +1,8 @@
 -- The pairs of a perimeter: the arc of a pair by the list of them; the tests that the loops make at a pair; and the list of corners.
-use Prim.Native.Nat.{ℕ, ◌≤◌, ◌<◌}
+use Prim.Native.Nat.{ℕ, ◌≤◌}
 use native.Mathlib.Omega.{arith}
-use mathlib.Core.Path.{◌≡◌, refl, ap, sym, ◌∙◌}
-use mathlib.Core.Bool.{Bool, true, not, ◌&&◌, ◌||◌, cond}
+use mathlib.Core.Path.{◌≡◌, refl, ap, ◌∙◌}
+use mathlib.Core.Bool.{Bool, true, not, ◌&&◌, ◌||◌}
 use mathlib.Core.List.{List, map}
 use lib.ListN.{length, get_or, length-map}
 use lib.Dec.{eqb}
@@ -18,17 +18,6 @@ use Rattle.rules.specs.Call.{given, by_keys}
 use Rattle.rules.proofs.Places.{list_back}
 use Rattle.pairs.specs.Pairs.{arcs_of}
 use Rattle.pairs.proofs.Listed.{arc-of-pair, arcs-length}
-use Rattle.lists.proofs.Laws.{place_in}
-
--- the arc of a pair, by the list of them
-pub arc-listed : (m : Mesh) (per : List ℕ) (xs : Links) (i x : ℕ) → list_of xs ≡ arcs_of m.arcs per → x ≡ get_or (list_of xs) i 0 → x ≡ arc_at m per i
-arc-listed m per xs i x e h = h ∙ ap (λ (l : List ℕ). get_or l i 0) e ∙ arc-of-pair m per i
-
--- the arc of a pair, by the places of the list of them
-pub arc-at-place : (m : Mesh) (per : List ℕ) (xs : Links) (n i : ℕ) → list_of xs ≡ arcs_of m.arcs per → n ≡ length per → i < n → get_or xs.at i 0 ≡ arc_at m per i
-arc-at-place m per xs n i e en q =
-    let many : n ≡ length (list_of xs) = en ∙ sym (ap length e ∙ arcs-length m.arcs per) in
-    arc-listed m per xs i (get_or xs.at i 0) e (place_in xs n i many q)
 
 -- ---- what is asked at pair i
 
@@ -38,19 +27,21 @@ clash m per i = has_face m per i || leads_back m per i
 abbrev pub taken : Mesh → ℕ → List ℕ → ℕ → Bool
 taken m f per i = has_face m per i && not (eqb (face m (arc_at m per i)) f)
 
-abbrev pub missing : Mesh → List ℕ → ℕ → ℕ
-missing m per i = cond (eqb (arc_at m per i) 0) 1 0
+-- the same by the list of the arcs
+module _ (m : Mesh) (per xs : List ℕ) (e : xs ≡ arcs_of m.arcs per) (i : ℕ) where
+  pub listed-arc : (j : ℕ) → get_or xs j 0 ≡ arc_at m per j
+  listed-arc j = ap (λ (l : List ℕ). get_or l j 0) e ∙ arc-of-pair m per j
 
-pub face-of-arc : (m : Mesh) (per : List ℕ) (i x : ℕ) (r : Bool) → x ≡ arc_at m per i → r ≡ (not (eqb x 0) && not (eqb (cell m.arcs x 4) 0)) → r ≡ has_face m per i
-unfolding has_face
-face-of-arc m per i x r e h = rw (← e) h
+  pub face-at : (r : Bool) → r ≡ (not (eqb (get_or xs i 0) 0) && not (eqb (cell m.arcs (get_or xs i 0) 4) 0)) → r ≡ has_face m per i
+  unfolding has_face
+  face-at r h = rw (← listed-arc i) h
 
--- whether it leads back. x is its arc, and w the one of the pair after
-pub back-of-arc : (m : Mesh) (per : List ℕ) (i x n j w : ℕ) (r : Bool) → x ≡ arc_at m per i → n ≡ length per → j ≡ after n i → w ≡ arc_at m per j → r ≡ (not (eqb x 0) && (eqb w 0 && (not (eqb (next m x) 0) && has per (dest m (next m x))))) → r ≡ leads_back m per i
-unfolding leads_back
-back-of-arc m per i x n j w r ex en ej ew h =
-    let follower : w ≡ arc_at m per (after (length per) i) = ew ∙ ap (arc_at m per) (ej ∙ ap (λ (k : ℕ). after k i) en) in
-    rw (← ex, ← follower) h
+  -- whether it leads back. j is the pair after
+  pub back-at : (j : ℕ) (r : Bool) → j ≡ after (length xs) i → r ≡ (not (eqb (get_or xs i 0) 0) && (eqb (get_or xs j 0) 0 && (not (eqb (next m (get_or xs i 0)) 0) && has per (dest m (next m (get_or xs i 0)))))) → r ≡ leads_back m per i
+  unfolding leads_back
+  back-at j r ej h =
+      let on : j ≡ after (length per) i = ej ∙ ap (λ (n : ℕ). after n i) (ap length e ∙ arcs-length m.arcs per) in
+      rw (← listed-arc i, ← on, ← listed-arc j) h
 
 -- ---- lists as the code holds them
 

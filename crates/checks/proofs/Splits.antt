@@ -1,13 +1,14 @@
 -- The checks of a split: one law for each way out of the code. Its points are the ring's vertices as it holds them, from and to are the places
--- of s and d among them plus one, far is the ring distance, and each half comes with whether another face holds an arc of it.
-use Prim.Native.Nat.{ℕ, ◌-◌, ◌≤◌, ◌<◌}
+-- of s and d among them, far is the ring distance, and each half comes with whether another face holds an arc of it.
+use Prim.Native.Nat.{ℕ, ◌+◌, ◌-◌, ◌≤◌, ◌<◌}
+use native.Mathlib.Omega.{arith}
 use mathlib.Core.Path.{◌≡◌, ap, sym, ◌∙◌}
 use mathlib.Core.Bool.{Bool, true, false}
-use mathlib.Core.List.{List}
+use lib.Dec.{eqb}
 use lib.ListN.{length}
 use borrow.Author.Tests.{eq-eqb, ne_eqb, lt-ltb, le-ltb}
 use Rattle.rules.specs.declared.Links.{Links}
-use Rattle.rules.specs.declared.Answer.TheVariants.{Done, Refused}
+use Rattle.rules.specs.Answer.{Done, Refused}
 use Rattle.rules.specs.declared.Refusal.TheVariants.{TopologyMalformed, TopologyNotFound, TopologyConflict}
 use Rattle.rules.specs.Mesh.{Mesh, links_of, list_of}
 use Rattle.rules.specs.Link.{ring_vertices}
@@ -20,32 +21,45 @@ module _ (m : Mesh) (f s d : ℕ) where
   unfolding split_checks
   no-face e = rw (eq-eqb f 0 e)
 
-  module _ (face : f ≡ 0 → ⊥) {points : Links} (ep : points ≡ links_of (ring_vertices m f)) {from : ℕ} (ef : from ≡ place (list_of points) s) where
+  module _ (face : f ≡ 0 → ⊥) {points : Links} (ep : points ≡ links_of (ring_vertices m f)) where
     back : list_of points ≡ ring_vertices m f
     back = ap list_of ep ∙ vertices-back m f
 
-    source : place (ring_vertices m f) s ≡ from
-    source = sym (ef ∙ ap (λ (l : List ℕ). place l s) back)
-
-    pub no_source : from ≡ 0 → Refused TopologyNotFound ≡ split_checks m f s d
+    pub no_source : place (list_of points) s ≡ 0 → Refused TopologyNotFound ≡ split_checks m f s d
     unfolding split_checks
-    no_source e = rw (ne_eqb f 0 face, source, eq-eqb from 0 e)
+    no_source e =
+        let none : place (ring_vertices m f) s ≡ 0 = rw back at e in
+        rw (ne_eqb f 0 face, none)
 
-    module _ (leaves : from ≡ 0 → ⊥) {to : ℕ} (et : to ≡ place (list_of points) d) where
-      dest : place (ring_vertices m f) d ≡ to
-      dest = sym (et ∙ ap (λ (l : List ℕ). place l d) back)
+    module _ (from : ℕ) (ef : place (list_of points) s ≡ from + 1) where
+      source : place (ring_vertices m f) s ≡ from + 1
+      source = rw back at ef
 
-      pub no-dest : to ≡ 0 → Refused TopologyNotFound ≡ split_checks m f s d
+      leaves : eqb (from + 1) 0 ≡ false
+      leaves = ne_eqb (from + 1) 0 (λ e. omega arith)
+
+      pub no-dest : place (list_of points) d ≡ 0 → Refused TopologyNotFound ≡ split_checks m f s d
       unfolding split_checks
-      no-dest e = rw (ne_eqb f 0 face, source, dest, ne_eqb from 0 leaves, eq-eqb to 0 e)
+      no-dest e =
+          let none : place (ring_vertices m f) d ≡ 0 = rw back at e in
+          rw (ne_eqb f 0 face, source, none, leaves)
 
-      module _ (arrives : to ≡ 0 → ⊥) {n far : ℕ} (en : n ≡ length (list_of points)) (ed : far ≡ ring_distance n (from - 1) (to - 1)) where
-        way : ring_distance (length (ring_vertices m f)) (from - 1) (to - 1) ≡ far
-        way = sym (ed ∙ ap (λ (k : ℕ). ring_distance k (from - 1) (to - 1)) (en ∙ ap length back))
+      module _ (to : ℕ) (et : place (list_of points) d ≡ to + 1) {n far : ℕ} (en : n ≡ length (list_of points)) (ed : far ≡ ring_distance n from to) where
+        dest : place (ring_vertices m f) d ≡ to + 1
+        dest = rw back at et
+
+        arrives : eqb (to + 1) 0 ≡ false
+        arrives = ne_eqb (to + 1) 0 (λ e. omega arith)
+
+        way : ring_distance (length (ring_vertices m f)) (from + 1 - 1) (to + 1 - 1) ≡ far
+        way =
+            let i : from + 1 - 1 ≡ from = omega arith in
+            let j : to + 1 - 1 ≡ to = omega arith in
+            rw (i, j) (sym (ed ∙ ap (λ (k : ℕ). ring_distance k from to) (en ∙ ap length back)))
 
         pub too-near : far < 2 → Refused TopologyMalformed ≡ split_checks m f s d
         unfolding split_checks
-        too-near e = rw (ne_eqb f 0 face, source, dest, ne_eqb from 0 leaves, ne_eqb to 0 arrives, way, lt-ltb far 2 e)
+        too-near e = rw (ne_eqb f 0 face, source, dest, leaves, arrives, way, lt-ltb far 2 e)
 
         module _ (apart : 2 ≤ far) {one : Links} (el : one ≡ links_of (half m f s d)) {l : Bool} (hl : l ≡ held_by_other m f (list_of one)) where
           left : held_by_other m f (half m f s d) ≡ l
@@ -53,7 +67,7 @@ module _ (m : Mesh) (f s d : ℕ) where
 
           pub left-held : l ≡ true → Refused TopologyConflict ≡ split_checks m f s d
           unfolding split_checks
-          left-held e = rw (ne_eqb f 0 face, source, dest, ne_eqb from 0 leaves, ne_eqb to 0 arrives, way, le-ltb far 2 apart, left, e)
+          left-held e = rw (ne_eqb f 0 face, source, dest, leaves, arrives, way, le-ltb far 2 apart, left, e)
 
           module _ (free : l ≡ false) {two : Links} (er : two ≡ links_of (half m f d s)) {r : Bool} (hr : r ≡ held_by_other m f (list_of two)) where
             right : held_by_other m f (half m f d s) ≡ r
@@ -61,8 +75,8 @@ module _ (m : Mesh) (f s d : ℕ) where
 
             pub right-held : r ≡ true → Refused TopologyConflict ≡ split_checks m f s d
             unfolding split_checks
-            right-held e = rw (ne_eqb f 0 face, source, dest, ne_eqb from 0 leaves, ne_eqb to 0 arrives, way, le-ltb far 2 apart, left, free, right, e)
+            right-held e = rw (ne_eqb f 0 face, source, dest, leaves, arrives, way, le-ltb far 2 apart, left, free, right, e)
 
             pub splits : r ≡ false → Done ≡ split_checks m f s d
             unfolding split_checks
-            splits e = rw (ne_eqb f 0 face, source, dest, ne_eqb from 0 leaves, ne_eqb to 0 arrives, way, le-ltb far 2 apart, left, free, right, e)
+            splits e = rw (ne_eqb f 0 face, source, dest, leaves, arrives, way, le-ltb far 2 apart, left, free, right, e)

@@ -1,9 +1,15 @@
--- What an edit needs at most, told without a search among the arcs: where there is room for that, there is room for its need.
+-- What the code's need says, and what an edit needs at most, told without a search among the arcs: where there is room for that, there is room
+-- for its need.
 use Rattle.std.specs.Prelude.{ℕ, ◌≤◌, List, length}
 use Rattle.rules.specs.declared.Edit.{Edit}
 use Rattle.rules.specs.declared.Edit.TheVariants.{VertexInsert, FaceInsert, FaceRemove, FaceSplit, FacePoke, FaceBridge, FaceExtrude, ArcBridge, ArcExtrude}
 use Rattle.rules.specs.Mesh.{Mesh}
 use Rattle.rules.specs.Call.{Need, needs, need}
+use Rattle.checks.specs.declared.call.Need as Code
+
+-- the need that the code holds
+abbrev pub needed : Code.Need → Need
+needed n = needs n.vertices n.edges n.faces n.facekeys
 
 -- no more vertices, edges, faces and face keys than the other
 pub record AtMost (n k : Need) : Type 0 where

@@ -1,7 +1,7 @@
 -- The checks of a face insert before any arc is looked for: rule 5 of document 01 up to its lookups, and document 02's L6.
 use Rattle.std.specs.Prelude.{cond, List, ℕ}
-use Rattle.rules.specs.declared.Answer.{Answer}
-use Rattle.rules.specs.declared.Answer.TheVariants.{Done, Refused}
+use Rattle.rules.specs.Answer.{Answer}
+use Rattle.rules.specs.Answer.{Done, Refused}
 use Rattle.rules.specs.declared.Refusal.TheVariants.{TopologyMalformed, TopologyNotFound, SamePlace}
 use Rattle.rules.specs.Table.{has}
 use Rattle.rules.specs.Mesh.{Mesh}

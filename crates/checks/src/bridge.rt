@@ -2,6 +2,7 @@
 // existing arc among their pairs that has a face, 5", and rule 9, "Destination lookup, then arity, 6"; a face with itself is 4, after 6.
 
 ghost use Rattle.std.specs.Prelude.{◌≡◌, List, ℕ, length, Float};
+ghost use Rattle.rules.specs.Lent.{allowed};
 ghost use Rattle.rules.specs.Table.{Table, some_below};
 ghost use Rattle.rules.specs.Mesh.{mesh, links_of, list_of};
 ghost use Rattle.rules.specs.Insert.{has_face};
@@ -10,7 +11,7 @@ ghost use Rattle.pairs.specs.Pairs.{arcs_of};
 ghost use Rattle.checks.specs.Between.{one_of, other_of, Told, Cornered};
 
 use crate::{insert, rings};
-use rules::{Answer, ArcRow, FaceRow, Links, PositionRow, RING, Refusal};
+use rules::{ArcRow, FaceRow, Links, PositionRow, Refusal};
 use tables::rows;
 
 // ---- the four corners
@@ -19,10 +20,10 @@ use tables::rows;
 pub fn corners_of(arcs: &[ArcRow], x: u32, y: u32) -> [u32; 4]
     ensures { (vs : Table) (ps : List (List Float)) (es fs : Table) (ks : List ℕ) → result ≡ Edit.corners (mesh vs ps arcs.now es fs ks) x y }
 {
-    let a = rows::cell6(arcs, x, 0);
-    let b = rows::cell6(arcs, x, 1);
-    let c = rows::cell6(arcs, y, 0);
-    let d = rows::cell6(arcs, y, 1);
+    let a = rows::cell(arcs, x, 0);
+    let b = rows::cell(arcs, x, 1);
+    let c = rows::cell(arcs, y, 0);
+    let d = rows::cell(arcs, y, 1);
     [a, b, c, d]
 }
 
@@ -35,14 +36,7 @@ fn known_four(four: [u32; 4])
 pub fn corner_list(four: [u32; 4]) -> Links
     ensures { result ≡ links_of four }
 {
-    known_four(four);
-    let mut at = [0u32; RING];
-    let mut i: usize = 0;
-    while i < 4 {
-        at[i] = four[i];
-        i += 1;
-    }
-    Links { at, len: 4 }
+    lists::from_keys(&four)
 }
 
 // ---- two arcs to be bridged, by their vertices
@@ -74,17 +68,13 @@ pub fn corners_between(arcs: &[ArcRow], four: [u32; 4]) -> Between
     ensures { Told arcs.now four result × Cornered arcs.now result }
 {
     let told = arcs_between(arcs, four);
-    let x = told.x;
-    let y = told.y;
-    if x != 0 {
-        if y != 0 {
-            return told;
-        }
+    if told.x != 0 && told.y != 0 {
+        return told;
     }
-    let per = corner_list(corners_of(arcs, x, y));
+    let per = corner_list(corners_of(arcs, told.x, told.y));
     lists::known_few(per);
     let found = pairs::perimeter_arcs(arcs, per);
-    Between { x, y, per, found }
+    Between { per, found, ..told }
 }
 
 // ---- the checks
@@ -94,12 +84,10 @@ pub fn corners_faced(arcs: &[ArcRow], xs: Links) -> bool
     ensures { (vs : Table) (ps : List (List Float)) (es fs : Table) (ks four : List ℕ) → list_of xs ≡ arcs_of arcs.now four →
         result ≡ some_below (has_face (mesh vs ps arcs.now es fs ks) four) 4 }
 {
-    let mut i: usize = 0;
-    while i < 4 {
+    for i in 0..4 {
         if insert::has_face(arcs, xs, i) {
             return true;
         }
-        i += 1;
     }
     false
 }
@@ -112,60 +100,51 @@ pub fn arc_bridge_checks_by(
     xs: Links,
     x: u32,
     y: u32,
-) -> Answer
+) -> Result<(), Refusal>
     requires per_value { (vs : Table) (ps : List (List Float)) (es fs : Table) (ks : List ℕ) → list_of per ≡ Edit.corners (mesh vs ps arcs.now es fs ks) x y }
     requires xs_value { list_of xs ≡ arcs_of arcs.now (list_of per) }
     ensures { (vs es fs : Table) (ks : List ℕ) →
-        result ≡ Edit.arc_bridge_checks (mesh vs positions.now arcs.now es fs ks) x y }
+        allowed result ≡ Edit.arc_bridge_checks (mesh vs positions.now arcs.now es fs ks) x y }
 {
-    if x == 0 {
-        return Answer::Refused(Refusal::TopologyNotFound);
-    }
-    if y == 0 {
-        return Answer::Refused(Refusal::TopologyNotFound);
+    if x == 0 || y == 0 {
+        return Err(Refusal::TopologyNotFound);
     }
     if corners_faced(arcs, xs) {
-        return Answer::Refused(Refusal::TopologyConflict);
+        return Err(Refusal::TopologyConflict);
     }
     insert::insert_checks_by(positions, arcs, xs, per, per)
 }
 
 // Rule 8's checks of the arcs (a,b) and (c,d), given by four vertices.
-pub fn arc_bridge_checks(positions: &[PositionRow], arcs: &[ArcRow], four: [u32; 4]) -> Answer
+pub fn arc_bridge_checks(
+    positions: &[PositionRow],
+    arcs: &[ArcRow],
+    four: [u32; 4],
+) -> Result<(), Refusal>
     ensures { (vs es fs : Table) (ks : List ℕ) →
-        result ≡ Edit.arc_bridge_checks (mesh vs positions.now arcs.now es fs ks) (one_of arcs.now four)
+        allowed result ≡ Edit.arc_bridge_checks (mesh vs positions.now arcs.now es fs ks) (one_of arcs.now four)
         (other_of arcs.now four) }
 {
     let told = arcs_between(arcs, four);
-    let x = told.x;
-    let y = told.y;
-    if x == 0 {
-        return Answer::Refused(Refusal::TopologyNotFound);
+    if told.x == 0 || told.y == 0 {
+        return Err(Refusal::TopologyNotFound);
     }
-    if y == 0 {
-        return Answer::Refused(Refusal::TopologyNotFound);
-    }
-    arc_bridge_checks_by(positions, arcs, told.per, told.found, x, y)
+    arc_bridge_checks_by(positions, arcs, told.per, told.found, told.x, told.y)
 }
 
 // Those of a bridge of two faces.
-pub fn bridge_checks(arcs: &[ArcRow], faces: &[FaceRow], f: u32, g: u32) -> Answer
+pub fn bridge_checks(arcs: &[ArcRow], faces: &[FaceRow], f: u32, g: u32) -> Result<(), Refusal>
     ensures { (vs : Table) (ps : List (List Float)) (es : Table) (ks : List ℕ) →
-        result ≡ Edit.bridge_checks (mesh vs ps arcs.now es faces.now ks) f g }
+        allowed result ≡ Edit.bridge_checks (mesh vs ps arcs.now es faces.now ks) f g }
 {
-    if f == 0 {
-        return Answer::Refused(Refusal::TopologyNotFound);
+    if f == 0 || g == 0 {
+        return Err(Refusal::TopologyNotFound);
     }
-    if g == 0 {
-        return Answer::Refused(Refusal::TopologyNotFound);
-    }
-    let n = rings::arity_of(arcs, faces, f);
-    let m = rings::arity_of(arcs, faces, g);
-    if n != m {
-        return Answer::Refused(Refusal::ArityNonUniform);
+    if rings::arity_of(arcs, faces, f) != rings::arity_of(arcs, faces, g) {
+        return Err(Refusal::ArityNonUniform);
     }
     if f == g {
-        return Answer::Refused(Refusal::TopologyNotFound);
+        return Err(Refusal::TopologyNotFound);
     }
-    Answer::Done
+    Ok(())
 }

@@ -1,15 +1,16 @@
 // An edit before its first change, by the keys that the caller gives: 2 for what was given, the Rust's checks in its order, 2 for moved coordinates,
 // and the need against free rows and keys. Document 01's "Order: 1; 2 for what the caller gave; ..; 7" and its "Need".
 
-ghost use Rattle.std.specs.Prelude.{◌≡◌, cond, List, [], ◌∷◌, ℕ, ◌≤◌, ◌+◌, length, eqb, leb, Float};
+ghost use Rattle.std.specs.Prelude.{◌≡◌, List, [], ◌∷◌, ℕ, ◌≤◌, ◌+◌, length, leb, Float};
 ghost use Rattle.rules.specs.declared.Edit.TheVariants.{FaceInsert};
+ghost use Rattle.rules.specs.Lent.{mesh_in, allowed};
 ghost use Rattle.rules.specs.Table.{Table};
 ghost use Rattle.rules.specs.Mesh.{mesh, list_of, find_key};
 ghost use Rattle.rules.specs.Call as Call;
-ghost use Rattle.checks.specs.Most.{AtMost, most};
+ghost use Rattle.checks.specs.Most.{needed, AtMost, most};
 
 use crate::{bridge, extrude, free, insert, rings, split};
-use rules::{Answer, ArcRow, EdgeRow, Edit, FaceRow, Links, PositionRow, RING, VertexRow};
+use rules::{ArcRow, Edit, FaceRow, Links, MeshRef, RING, Refusal, VertexRow};
 use tables::{points, rows};
 
 // ---- 2 for what the caller gave
@@ -19,15 +20,10 @@ pub fn given(edit: Edit, keys: &[u32]) -> bool
     ensures { result ≡ Call.given edit keys.now }
 {
     match edit {
-        Edit::VertexInsert(p) => points::finite_position(p),
+        Edit::VertexInsert(p) | Edit::FacePoke(_, p) => points::finite_position(p),
         Edit::FaceInsert(_) => keys.len() <= RING,
-        Edit::FaceRemove(_) => true,
-        Edit::FaceSplit(_, _, _) => true,
-        Edit::FacePoke(_, p) => points::finite_position(p),
-        Edit::FaceBridge(_, _) => true,
-        Edit::FaceExtrude(_, mv) => points::finite_move(mv),
-        Edit::ArcBridge(_, _, _, _) => true,
-        Edit::ArcExtrude(_, _, mv) => points::finite_move(mv),
+        Edit::FaceExtrude(_, mv) | Edit::ArcExtrude(_, _, mv) => points::finite_move(mv),
+        _ => true,
     }
 }
 
@@ -38,8 +34,8 @@ pub fn arc_by_keys(vertices: &[VertexRow], arcs: &[ArcRow], s: u32, d: u32) -> u
     ensures { (ps : List (List Float)) (es fs : Table) (ks : List ℕ) →
         result ≡ Call.arc_by_keys (mesh vertices.now ps arcs.now es fs ks) s d }
 {
-    let a = rows::find_key2(vertices, s);
-    let b = rows::find_key2(vertices, d);
+    let a = rows::find_key(vertices, s);
+    let b = rows::find_key(vertices, d);
     rows::find_arc(arcs, a, b)
 }
 
@@ -48,11 +44,12 @@ pub fn four_by_keys(vertices: &[VertexRow], a: u32, b: u32, c: u32, d: u32) -> [
     ensures { result ≡ find_key vertices.now a ∷ find_key vertices.now b ∷ find_key vertices.now c ∷ find_key
         vertices.now d ∷ [] }
 {
-    let first = rows::find_key2(vertices, a);
-    let second = rows::find_key2(vertices, b);
-    let third = rows::find_key2(vertices, c);
-    let fourth = rows::find_key2(vertices, d);
-    [first, second, third, fourth]
+    [
+        rows::find_key(vertices, a),
+        rows::find_key(vertices, b),
+        rows::find_key(vertices, c),
+        rows::find_key(vertices, d),
+    ]
 }
 
 // The vertices with these keys, of which there are at most 64.
@@ -64,40 +61,38 @@ fn by_keys(vertices: &[VertexRow], keys: &[u32]) -> Links
 }
 
 // The checks of each edit, where a face insert has at most 64 keys, as `given` tells.
-pub fn checks_of(
-    vertices: &[VertexRow],
-    positions: &[PositionRow],
-    arcs: &[ArcRow],
-    faces: &[FaceRow],
-    edit: Edit,
-    keys: &[u32],
-) -> Answer
-    ensures { ((mark : ℕ) → edit ≡ FaceInsert mark → length keys.now ≤ 64) → (es : Table) (ks : List ℕ) →
-        result ≡ Call.checks (mesh vertices.now positions.now arcs.now es faces.now ks) edit keys.now }
+pub fn checks_of(mesh: MeshRef, edit: Edit, keys: &[u32]) -> Result<(), Refusal>
+    ensures { ((mark : ℕ) → edit ≡ FaceInsert mark → length keys.now ≤ 64) →
+        allowed result ≡ Call.checks (mesh_in mesh.entry) edit keys.now }
 {
     match edit {
-        Edit::VertexInsert(_) => Answer::Done,
+        Edit::VertexInsert(_) => Ok(()),
         Edit::FaceInsert(_) => {
             let names = lists::from_keys(keys);
-            insert::insert_checks(positions, arcs, names, by_keys(vertices, keys))
+            let per = by_keys(mesh.vertices, keys);
+            insert::insert_checks(mesh.positions, mesh.arcs, names, per)
         }
-        Edit::FaceRemove(f) => extrude::known(rows::find_key3(faces, f)),
+        Edit::FaceRemove(f) | Edit::FacePoke(f, _) | Edit::FaceExtrude(f, _) => {
+            extrude::known(rows::find_key(mesh.faces, f))
+        }
         Edit::FaceSplit(f, s, d) => {
-            let from = rows::find_key2(vertices, s);
-            let to = rows::find_key2(vertices, d);
-            split::split_checks(arcs, faces, rows::find_key3(faces, f), from, to)
+            let face = rows::find_key(mesh.faces, f);
+            let from = rows::find_key(mesh.vertices, s);
+            let to = rows::find_key(mesh.vertices, d);
+            split::split_checks(mesh.arcs, mesh.faces, face, from, to)
         }
-        Edit::FacePoke(f, _) => extrude::known(rows::find_key3(faces, f)),
         Edit::FaceBridge(f, g) => {
-            let from = rows::find_key3(faces, f);
-            bridge::bridge_checks(arcs, faces, from, rows::find_key3(faces, g))
+            let from = rows::find_key(mesh.faces, f);
+            let to = rows::find_key(mesh.faces, g);
+            bridge::bridge_checks(mesh.arcs, mesh.faces, from, to)
         }
-        Edit::FaceExtrude(f, _) => extrude::known(rows::find_key3(faces, f)),
         Edit::ArcBridge(a, b, c, d) => {
-            bridge::arc_bridge_checks(positions, arcs, four_by_keys(vertices, a, b, c, d))
+            let four = four_by_keys(mesh.vertices, a, b, c, d);
+            bridge::arc_bridge_checks(mesh.positions, mesh.arcs, four)
         }
         Edit::ArcExtrude(s, d, _) => {
-            extrude::arc_extrude_checks(arcs, arc_by_keys(vertices, arcs, s, d))
+            let x = arc_by_keys(mesh.vertices, mesh.arcs, s, d);
+            extrude::arc_extrude_checks(mesh.arcs, x)
         }
     }
 }
@@ -105,34 +100,22 @@ pub fn checks_of(
 // ---- 2 for moved coordinates
 
 // Whether the coordinates that an edit moves are finite.
-pub fn moves_finite(
-    vertices: &[VertexRow],
-    positions: &[PositionRow],
-    arcs: &[ArcRow],
-    faces: &[FaceRow],
-    edit: Edit,
-) -> bool
-    ensures { (es : Table) (ks : List ℕ) → result ≡ Call.moves_finite (mesh vertices.now positions.now arcs.now es faces.now ks) edit }
+pub fn moves_finite(mesh: MeshRef, edit: Edit) -> bool
+    ensures { result ≡ Call.moves_finite (mesh_in mesh.entry) edit }
 {
     match edit {
-        Edit::VertexInsert(_) => true,
-        Edit::FaceInsert(_) => true,
-        Edit::FaceRemove(_) => true,
-        Edit::FaceSplit(_, _, _) => true,
-        Edit::FacePoke(_, _) => true,
-        Edit::FaceBridge(_, _) => true,
-        Edit::FaceExtrude(f, mv) => extrude::moved_finite(
-            positions,
-            mv,
-            rings::vertices_of(arcs, faces, rows::find_key3(faces, f)),
-        ),
-        Edit::ArcBridge(_, _, _, _) => true,
-        Edit::ArcExtrude(s, d, mv) => {
-            if !extrude::one_finite(positions, mv, rows::find_key2(vertices, d)) {
-                return false;
-            }
-            extrude::one_finite(positions, mv, rows::find_key2(vertices, s))
+        Edit::FaceExtrude(f, mv) => {
+            let face = rows::find_key(mesh.faces, f);
+            let vertices = rings::vertices_of(mesh.arcs, mesh.faces, face);
+            extrude::moved_finite(mesh.positions, mv, vertices)
         }
+        Edit::ArcExtrude(s, d, mv) => {
+            let to = rows::find_key(mesh.vertices, d);
+            let from = rows::find_key(mesh.vertices, s);
+            extrude::one_finite(mesh.positions, mv, to)
+                && extrude::one_finite(mesh.positions, mv, from)
+        }
+        _ => true,
     }
 }
 
@@ -147,139 +130,107 @@ pub struct Need {
     pub facekeys: usize,
 }
 
-// The four numbers as one value.
-fn needs(vertices: usize, edges: usize, faces: usize, facekeys: usize) -> Need
-    ensures { Call.needs result.vertices result.edges result.faces result.facekeys ≡ Call.needs vertices edges faces facekeys }
-{
-    Need {
-        vertices,
-        edges,
-        faces,
-        facekeys,
+impl Need {
+    fn new(vertices: usize, edges: usize, faces: usize, facekeys: usize) -> Need
+        ensures { needed result ≡ Call.needs vertices edges faces facekeys }
+    {
+        Need {
+            vertices,
+            edges,
+            faces,
+            facekeys,
+        }
     }
 }
 
 // An insert: one edge for each pair without an arc, one face.
 fn insert_need(arcs: &[ArcRow], per: Links) -> Need
     ensures { (vs : Table) (ps : List (List Float)) (es fs : Table) (ks : List ℕ) →
-        Call.needs result.vertices result.edges result.faces result.facekeys ≡ Call.insert_need (mesh vs ps arcs.now es fs ks) (list_of per) }
+        needed result ≡ Call.insert_need (mesh vs ps arcs.now es fs ks) (list_of per) }
 {
-    needs(0, insert::pairs_without(arcs, per), 1, 1)
+    Need::new(0, insert::pairs_without(arcs, per), 1, 1)
 }
 
 // What an edit needs at most, told without a search among the arcs: a face insert one edge for each key, a split one, an arc bridge four; any
 // other edit what it needs.
 pub fn most_of(arcs: &[ArcRow], faces: &[FaceRow], edit: Edit, keys: &[u32]) -> Need
     ensures { (vs : Table) (ps : List (List Float)) (es : Table) (ks : List ℕ) →
-        (Call.needs result.vertices result.edges result.faces result.facekeys
-        ≡ most (mesh vs ps arcs.now es faces.now ks) edit keys.now)
-        × AtMost (Call.need (mesh vs ps arcs.now es faces.now ks) edit keys.now)
-        (Call.needs result.vertices result.edges result.faces result.facekeys) }
+        (needed result ≡ most (mesh vs ps arcs.now es faces.now ks) edit keys.now)
+        × AtMost (Call.need (mesh vs ps arcs.now es faces.now ks) edit keys.now) (needed result) }
 {
     match edit {
-        Edit::VertexInsert(_) => needs(1, 0, 0, 0),
-        Edit::FaceInsert(_) => needs(0, keys.len(), 1, 1),
-        Edit::FaceRemove(_) => needs(0, 0, 0, 0),
-        Edit::FaceSplit(_, _, _) => needs(0, 1, 1, 2),
+        Edit::VertexInsert(_) => Need::new(1, 0, 0, 0),
+        Edit::FaceInsert(_) => Need::new(0, keys.len(), 1, 1),
+        Edit::FaceRemove(_) => Need::new(0, 0, 0, 0),
+        Edit::FaceSplit(_, _, _) => Need::new(0, 1, 1, 2),
         Edit::FacePoke(f, _) => {
-            let n = rings::arity_of(arcs, faces, rows::find_key3(faces, f));
-            needs(1, n, split::left_of(n, 1), n)
+            let n = rings::arity_of(arcs, faces, rows::find_key(faces, f));
+            Need::new(1, n, n.saturating_sub(1), n)
         }
         Edit::FaceBridge(f, _) => {
-            let n = rings::arity_of(arcs, faces, rows::find_key3(faces, f));
-            needs(0, n, split::left_of(n, 2), n)
+            let n = rings::arity_of(arcs, faces, rows::find_key(faces, f));
+            Need::new(0, n, n.saturating_sub(2), n)
         }
         Edit::FaceExtrude(f, _) => {
-            let n = rings::arity_of(arcs, faces, rows::find_key3(faces, f));
-            needs(n, 2 * n, n, n + 1)
+            let n = rings::arity_of(arcs, faces, rows::find_key(faces, f));
+            Need::new(n, 2 * n, n, n + 1)
         }
-        Edit::ArcBridge(_, _, _, _) => needs(0, 4, 1, 1),
-        Edit::ArcExtrude(_, _, _) => needs(2, 3, 1, 1),
+        Edit::ArcBridge(_, _, _, _) => Need::new(0, 4, 1, 1),
+        Edit::ArcExtrude(_, _, _) => Need::new(2, 3, 1, 1),
     }
 }
 
 // What each edit needs, where a face insert has at most 64 keys.
-pub fn need_of(
-    vertices: &[VertexRow],
-    arcs: &[ArcRow],
-    faces: &[FaceRow],
-    edit: Edit,
-    keys: &[u32],
-) -> Need
-    ensures { ((mark : ℕ) → edit ≡ FaceInsert mark → length keys.now ≤ 64) → (ps : List (List Float)) (es : Table) (ks : List ℕ) →
-        Call.needs result.vertices result.edges result.faces result.facekeys
-        ≡ Call.need (mesh vertices.now ps arcs.now es faces.now ks) edit keys.now }
+pub fn need_of(mesh: MeshRef, edit: Edit, keys: &[u32]) -> Need
+    ensures { ((mark : ℕ) → edit ≡ FaceInsert mark → length keys.now ≤ 64) →
+        needed result ≡ Call.need (mesh_in mesh.entry) edit keys.now }
 {
     match edit {
-        Edit::FaceInsert(_) => insert_need(arcs, by_keys(vertices, keys)),
+        Edit::FaceInsert(_) => insert_need(mesh.arcs, by_keys(mesh.vertices, keys)),
         Edit::FaceSplit(_, s, d) => {
-            let x = arc_by_keys(vertices, arcs, s, d);
-            needs(0, insert::one_if_none(x), 1, 2)
+            let x = arc_by_keys(mesh.vertices, mesh.arcs, s, d);
+            Need::new(0, usize::from(x == 0), 1, 2)
         }
         Edit::ArcBridge(a, b, c, d) => {
-            let told = bridge::corners_between(arcs, four_by_keys(vertices, a, b, c, d));
-            insert_need(arcs, told.per)
+            let four = four_by_keys(mesh.vertices, a, b, c, d);
+            insert_need(mesh.arcs, bridge::corners_between(mesh.arcs, four).per)
         }
-        _ => most_of(arcs, faces, edit, keys),
+        _ => most_of(mesh.arcs, mesh.faces, edit, keys),
     }
 }
 
 // Free rows are not fewer than the need.
-pub fn rows_for(vertices: &[VertexRow], edges: &[EdgeRow], faces: &[FaceRow], need: Need) -> bool
-    ensures { (ps : List (List Float)) (ar : Table) (ks : List ℕ) →
-        result ≡ Call.rows_for (mesh vertices.now ps ar edges.now faces.now ks)
-        (Call.needs need.vertices need.edges need.faces need.facekeys) }
+pub fn rows_for(mesh: MeshRef, need: Need) -> bool
+    ensures { result ≡ Call.rows_for (mesh_in mesh.entry) (needed need) }
 {
-    if !free::enough2(vertices, need.vertices) {
-        return false;
-    }
-    if !free::enough3(edges, need.edges) {
-        return false;
-    }
-    free::enough3(faces, need.faces)
+    free::enough(mesh.vertices, need.vertices)
+        && free::enough(mesh.edges, need.edges)
+        && free::enough(mesh.faces, need.faces)
 }
 
 // As many keys as there are: the last is 4,294,967,294.
-const KEYS: usize = 4294967295;
+const KEYS: usize = u32::MAX as usize;
 
 // Whether so many keys are left from the next on.
 fn keys_left(next: u32, many: usize) -> bool
     ensures { result ≡ leb (next + many) 4294967295 }
 {
-    if many > KEYS {
-        return false;
-    }
-    rows::wide(next) + many <= KEYS
+    many <= KEYS - next as usize
 }
 
 // No key above 4,294,967,294 is needed.
 pub fn keys_for(counters: &[u32; 3], need: Need) -> bool
     ensures { (vs : Table) (ps : List (List Float)) (ar es fs : Table) →
-        result ≡ Call.keys_for (mesh vs ps ar es fs counters.now) (Call.needs need.vertices need.edges need.faces need.facekeys) }
+        result ≡ Call.keys_for (mesh vs ps ar es fs counters.now) (needed need) }
 {
-    if !keys_left(counters[0], need.vertices) {
-        return false;
-    }
-    if !keys_left(counters[1], need.edges) {
-        return false;
-    }
-    keys_left(counters[2], need.facekeys)
+    keys_left(counters[0], need.vertices)
+        && keys_left(counters[1], need.edges)
+        && keys_left(counters[2], need.facekeys)
 }
 
 // Both.
-pub fn room_for(
-    vertices: &[VertexRow],
-    edges: &[EdgeRow],
-    faces: &[FaceRow],
-    counters: &[u32; 3],
-    need: Need,
-) -> bool
-    ensures { (ps : List (List Float)) (ar : Table) →
-        result ≡ Call.room_for (mesh vertices.now ps ar edges.now faces.now counters.now)
-        (Call.needs need.vertices need.edges need.faces need.facekeys) }
+pub fn room_for(mesh: MeshRef, need: Need) -> bool
+    ensures { result ≡ Call.room_for (mesh_in mesh.entry) (needed need) }
 {
-    if !rows_for(vertices, edges, faces, need) {
-        return false;
-    }
-    keys_for(counters, need)
+    rows_for(mesh, need) && keys_for(mesh.counters, need)
 }

@@ -1,41 +1,36 @@
 // Whether a table has as many free rows as are needed. It carries document 01's "free rows fewer than the edit's need". New records take the
 // lowest free rows, so the free rows are mostly the last: they are counted from the end, and no further than the need.
 
-ghost use Rattle.std.specs.Prelude.{◌≡◌, leb};
+ghost use Rattle.std.specs.Prelude.{◌≡◌, leb, length, take, filter, reverse, min};
 ghost use Rattle.rules.specs.Table.{count, unused};
 
-use rules::{EdgeRow, VertexRow};
-
-pub fn enough2(t: &[VertexRow], need: usize) -> bool
-    ensures { result ≡ leb need (count unused t.now) }
+// Whether a row is free: its first cell is 0.
+fn is_free<const N: usize>(row: &[u32; N]) -> bool
+    ensures { result ≡ unused row.now }
 {
-    let mut left = need;
-    let mut i = t.len();
-    while left > 0 {
-        if i == 0 {
-            return false;
-        }
-        i -= 1;
-        if t[i][0] == 0 {
-            left -= 1;
-        }
+    match row.first() {
+        Some(first) => *first == 0,
+        None => true,
     }
-    true
 }
 
-pub fn enough3(t: &[EdgeRow], need: usize) -> bool
+// How many free rows there are from the end on, and no more than are needed.
+fn free_from_end<const N: usize>(t: &[[u32; N]], need: usize) -> usize
+    ensures { result ≡ length (take need (filter unused (reverse t.now))) }
+{
+    t.iter()
+        .rev()
+        .filter(
+            |row| -> bool
+                ensures { result ≡ unused row.now.now }
+            { is_free(row) },
+        )
+        .take(need)
+        .count()
+}
+
+pub fn enough<const N: usize>(t: &[[u32; N]], need: usize) -> bool
     ensures { result ≡ leb need (count unused t.now) }
 {
-    let mut left = need;
-    let mut i = t.len();
-    while left > 0 {
-        if i == 0 {
-            return false;
-        }
-        i -= 1;
-        if t[i][0] == 0 {
-            left -= 1;
-        }
-    }
-    true
+    free_from_end(t, need) == need
 }

@@ -13,8 +13,7 @@ pub fn ring_of(arcs: &[ArcRow], faces: &[FaceRow], f: u32) -> Links
     ensures { (vs : Table) (ps : List (List Float)) (es : Table) (ks : List ℕ) →
         result ≡ links_of (Link.ring (mesh vs ps arcs.now es faces.now ks) f) }
 {
-    let walk = walks::rings::ring(arcs, rows::cell3(faces, f, 1));
-    walk.links
+    walks::rings::ring(arcs, rows::cell(faces, f, 1)).links
 }
 
 // How many arcs it has.

@@ -23,23 +23,9 @@ fn put_number(text: &mut [u8], at: usize, n: u32) -> usize
 fn stepped(n: u32, way: Way) -> u32 {
     match way {
         Way::Same => n,
-        Way::Up => up(n),
-        Way::Down => down(n),
+        Way::Up => n.saturating_add(1),
+        Way::Down => n.saturating_sub(1),
     }
-}
-
-fn up(n: u32) -> u32 {
-    if n > 1000 {
-        return n;
-    }
-    n + 1
-}
-
-fn down(n: u32) -> u32 {
-    if n == 0 {
-        return n;
-    }
-    n - 1
 }
 
 // So many numbers from one on, each a step from the one before.
@@ -50,11 +36,9 @@ fn put_numbers(text: &mut [u8], start: usize, from: u32, count: u32, way: Way) -
 {
     let mut at = start;
     let mut n = from;
-    let mut left = count;
-    while left > 0 {
+    for _ in 0..count {
         at = put_number(text, at, n);
         n = stepped(n, way);
-        left -= 1;
     }
     at
 }
@@ -70,15 +54,21 @@ pub fn put_line(text: &mut [u8], a: Asked) -> usize
     put_numbers(text, at, a.from, a.count, way)
 }
 
-// `ok` or `no`.
-fn put_word(text: &mut [u8], accepted: bool) -> usize
+// `ok` or `no`, and the number.
+fn put_answer(text: &mut [u8], answer: Result<u32, u32>) -> usize
     requires { 1024 ≤ length text.old }
-    ensures { result ≤ 2 }
+    ensures { result ≤ 13 }
 {
-    if accepted {
-        return texts::put_two(text, 0, b'o', b'k');
+    match answer {
+        Ok(n) => {
+            let word = texts::put_two(text, 0, b'o', b'k');
+            texts::put_spaced(text, word, n)
+        }
+        Err(n) => {
+            let word = texts::put_two(text, 0, b'n', b'o');
+            texts::put_spaced(text, word, n)
+        }
     }
-    texts::put_two(text, 0, b'n', b'o')
 }
 
 // The answer that is wanted, with its newline.
@@ -86,22 +76,6 @@ pub fn put_wanted(text: &mut [u8], a: Asked) -> usize
     requires { 1024 ≤ length text.old }
     ensures { result ≤ 1024 }
 {
-    let word = put_word(text, a.accepted);
-    let last = texts::put_spaced(text, word, a.number);
+    let last = put_answer(text, a.answer);
     texts::put_byte(text, last, b'\n')
-}
-
-// Whether two texts are the same.
-pub fn same(a: &[u8], b: &[u8]) -> bool {
-    if a.len() != b.len() {
-        return false;
-    }
-    let mut i: usize = 0;
-    while i < a.len() {
-        if a[i] != b[i] {
-            return false;
-        }
-        i += 1;
-    }
-    true
 }

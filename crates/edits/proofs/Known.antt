@@ -2,10 +2,9 @@
 use Prim.Native.Nat.{ℕ, zero, suc}
 use mathlib.Core.Path.{◌≡◌, refl, ap, sym, subst, ◌∙◌}
 use mathlib.Core.Bool.{Bool, true, false, cond}
-use mathlib.Core.List.{List}
 use borrow.Author.Tests.{eq-eqb, ne_eqb}
-use Rattle.rules.specs.declared.Answer.{Answer}
-use Rattle.rules.specs.declared.Answer.TheVariants.{Done}
+use Rattle.rules.specs.Answer.{Answer}
+use Rattle.rules.specs.Answer.{Done}
 use Rattle.rules.specs.Table.{up_to}
 use Rattle.rules.specs.Mesh.{Mesh, arc_between}
 use Rattle.rules.specs.Link.{new_edge, get_or_insert_edge}
@@ -17,17 +16,17 @@ use Rattle.edits.specs.declared.near.Around.{Around}
 use Rattle.edits.specs.Each.{each_in, joined_by}
 use Rattle.edits.specs.Known.{Known}
 
-pub known-stays : (m n : Mesh) (seen : List Bool) (near : List ℕ) (k : Around) → Filled m n → Known m.arcs m.edges m.faces seen near k → Known n.arcs n.edges n.faces seen near k
-known-stays m n seen near k f h = record {
-  listed = near-stays m.arcs n.arcs seen near k.by f.arcs h.listed;
+pub known-stays : (m n : Mesh) (k : Around) → Filled m n → Known m k → Known n k
+known-stays m n k f h = record {
+  listed = near-stays m.arcs n.arcs k.near f.arcs h.listed;
   arcs-used = used-stays m.arcs n.arcs k.from.arc f.arcs h.arcs-used;
   edges-used = used-stays m.edges n.edges k.from.edge f.edges h.edges-used;
   faces-used = used-stays m.faces n.faces k.from.face f.faces h.faces-used;
 }
 
 -- by a step that leaves a mesh so
-pub known-then : (m n o : Mesh) (seen : List Bool) (near : List ℕ) (k : Around) → Filled m o → n ≡ o → Known m.arcs m.edges m.faces seen near k → Known n.arcs n.edges n.faces seen near k
-known-then m n o seen near k f e h = known-stays m n seen near k (subst (Filled m) (sym e) f) h
+pub known-then : (m n o : Mesh) (k : Around) → Filled m o → n ≡ o → Known m k → Known n k
+known-then m n o k f e h = known-stays m n k (subst (Filled m) (sym e) f) h
 
 -- ---- the edge of an arc extrude
 
@@ -69,8 +68,8 @@ module _ (f : ℕ → Mesh → Step) (fills : (i : ℕ) (m : Mesh) → Filled m 
       go false = refl
 
   -- in the middle of it, o being what is done so far
-  pub known-each : (n : ℕ) (o : Mesh) (seen : List Bool) (near : List ℕ) (k : Around) → each_in f n m ≡ step o Done → Known m.arcs m.edges m.faces seen near k → Known o.arcs o.edges o.faces seen near k
+  pub known-each : (n : ℕ) (o : Mesh) (k : Around) → each_in f n m ≡ step o Done → Known m k → Known o k
   unfolding each_in
-  known-each n o seen near k e h =
+  known-each n o k e h =
       let s : Step = up_to (λ i t. and_then t (f i)) n (step m Done) in
-      known-then m o s.tables seen near k (turns-filled n) (sym (ap (λ (t : Step). t.tables) e) ∙ answered Done s) h
+      known-then m o s.tables k (turns-filled n) (sym (ap (λ (t : Step). t.tables) e) ∙ answered Done s) h

@@ -5,8 +5,9 @@ use native.Mathlib.Decide.{ℕ_discrete}
 use mathlib.Core.Path.{◌≡◌, refl, ap, sym, ◌∙◌}
 use mathlib.Core.Bool.{Bool, true, false}
 use mathlib.Core.Logic.{◌⊎◌, inl, inr, ⊎_elim}
-use Rattle.rules.specs.declared.Answer.{Answer}
-use Rattle.rules.specs.declared.Answer.TheVariants.{Done}
+use Rattle.rules.specs.Answer.{Answer}
+use Rattle.rules.specs.Answer.{Done, Key, Refused}
+use Rattle.rules.specs.declared.Refusal.{Refusal}
 use Rattle.rules.specs.Table.{up_to}
 use Rattle.rules.specs.Mesh.{Mesh}
 use Rattle.rules.specs.Step.{Step, step, accepted, and_then, answering, checked}
@@ -39,9 +40,27 @@ pub checked-stops : (m : Mesh) (r : Answer) (s : Step) → accepted r ≡ false 
 unfolding checked
 checked-stops m r s e = rw e
 
-done : accepted Done ≡ true
+pub done : accepted Done ≡ true
 unfolding accepted
 done = refl
+
+pub a-key : (k : ℕ) → accepted (Key k) ≡ true
+unfolding accepted
+a-key k = refl
+
+pub refused : (r : Refusal) → accepted (Refused r) ≡ false
+unfolding accepted
+refused r = refl
+
+-- the whole answers, or its part's refusal
+pub whole-done : (a : Answer) (m : Mesh) → step m a ≡ answering a (step m Done)
+whole-done a m = sym (answers-it a (step m Done) done)
+
+pub whole-key : (a : Answer) (m : Mesh) (k : ℕ) → step m a ≡ answering a (step m (Key k))
+whole-key a m k = sym (answers-it a (step m (Key k)) (a-key k))
+
+pub whole-refused : (a : Answer) (m : Mesh) (r : Refusal) → step m (Refused r) ≡ answering a (step m (Refused r))
+whole-refused a m r = sym (answers-not a (step m (Refused r)) (refused r))
 
 -- the answer of a part does not show in the answer of the whole
 pub answering-twice : (a : Answer) (s : Step) → answering a (answering Done s) ≡ answering a s

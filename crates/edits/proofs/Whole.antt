@@ -7,17 +7,15 @@ use mathlib.Core.List.{List, [], ◌∷◌, ◌++◌, reverse}
 use native.Mathlib.Numerals.{add-one}
 use lib.ListN.{length, get_or, set, take}
 use lib.Seq.{take-suc-set}
-use lib.Ieee.{Float}
-use Rattle.rules.specs.declared.Answer.{Answer}
-use Rattle.rules.specs.declared.Answer.TheVariants.{Key, Arc, Done}
+use Rattle.rules.specs.Answer.{Answer}
+use Rattle.rules.specs.Answer.{Key, Arc, Done, Refused}
+use Rattle.rules.specs.declared.Refusal.{Refusal}
 use Rattle.rules.specs.declared.Links.{Links}
 use Rattle.rules.specs.declared.Position.{Position}
-use Rattle.rules.specs.declared.Vertex.{Vertex}
 use Rattle.rules.specs.declared.Move.{Move}
-use Rattle.rules.specs.Table.{Table, free_row, up_to, after}
-use Rattle.rules.specs.Mesh.{Mesh, mesh, source, dest, mark, vertex_kind, face_kind, next_key, key_at, links_of, list_of}
-use Rattle.rules.specs.Point.{moved}
-use Rattle.rules.specs.Link.{ring, ring_vertices, vertex_at, new_vertex}
+use Rattle.rules.specs.Table.{free_row, up_to, after}
+use Rattle.rules.specs.Mesh.{Mesh, source, dest, mark, vertex_kind, face_kind, next_key, key_at, links_of, list_of}
+use Rattle.rules.specs.Link.{ring, ring_vertices, put_vertex, new_vertex}
 use Rattle.rules.specs.Step.{Step, step, accepted, and_then, answering}
 use Rattle.rules.specs.Insert.{insert_checks}
 use Rattle.rules.specs.Edit.{remove, half, corners}
@@ -37,19 +35,16 @@ use Rattle.edits.proofs.Inserts.{checked_refused, checked-done}
 
 -- ---- poke
 
-pub poke-steps : (m : Mesh) (f : ℕ) (pos : Position) (vs : Links) (mk c : ℕ) (a₁ f₁ v₂ : Table) (p₂ : List (List Float)) (k₂ : List ℕ) (mₑ : Mesh) (told r : Answer)
-    → vs ≡ links_of (ring_vertices m f) → mk ≡ mark m f
-    → mesh m.vertices m.positions a₁ m.edges f₁ m.counters ≡ remove m f
-    → c ≡ free_row m.vertices
-    → mesh v₂ p₂ a₁ m.edges f₁ k₂ ≡ new_vertex (mesh m.vertices m.positions a₁ m.edges f₁ m.counters) pos
-    → step mₑ told ≡ each_in (λ i a. insert_face_by searching a (get_or (list_of vs) i 0 ∷ get_or (list_of vs) (after (length (list_of vs)) i) 0 ∷ c ∷ []) mk) (length (list_of vs)) (mesh v₂ p₂ a₁ m.edges f₁ k₂)
+pub poke-steps : (m m₁ m₂ : Mesh) (f : ℕ) (pos : Position) (vs : Links) (mk c : ℕ) (mₑ : Mesh) (told r : Answer)
+    → vs ≡ links_of (ring_vertices m f) → mk ≡ mark m f → m₁ ≡ remove m f → c ≡ free_row m₁.vertices → m₂ ≡ new_vertex m₁ pos
+    → step mₑ told ≡ each_in (λ i a. insert_face_by searching a (get_or (list_of vs) i 0 ∷ get_or (list_of vs) (after (length (list_of vs)) i) 0 ∷ c ∷ []) mk) (length (list_of vs)) m₂
     → step mₑ r ≡ answering (Key (next_key m vertex_kind)) (step mₑ told)
     → step mₑ r ≡ poke_work_by searching m f pos
 unfolding poke_work_by
-poke-steps m f pos vs mk c a₁ f₁ v₂ p₂ k₂ mₑ told r evs emk gone free made parts whole =
+poke-steps m m₁ m₂ f pos vs mk c mₑ told r evs emk gone free made parts whole =
     let held : list_of vs ≡ ring_vertices m f = ap list_of evs ∙ vertices-back m f in
-    let all : step mₑ r ≡ answering (Key (next_key m vertex_kind)) (up_to (λ i s. and_then s (λ a. insert_face_by searching a (get_or (list_of vs) i 0 ∷ get_or (list_of vs) (after (length (list_of vs)) i) 0 ∷ c ∷ []) mk)) (length (list_of vs)) (step (mesh v₂ p₂ a₁ m.edges f₁ k₂) Done)) =
-    whole ∙ ap (answering (Key (next_key m vertex_kind))) parts ∙ each-as (λ i a. insert_face_by searching a (get_or (list_of vs) i 0 ∷ get_or (list_of vs) (after (length (list_of vs)) i) 0 ∷ c ∷ []) mk) (Key (next_key m vertex_kind)) (length (list_of vs)) (mesh v₂ p₂ a₁ m.edges f₁ k₂) in
+    let all : step mₑ r ≡ answering (Key (next_key m vertex_kind)) (up_to (λ i s. and_then s (λ a. insert_face_by searching a (get_or (list_of vs) i 0 ∷ get_or (list_of vs) (after (length (list_of vs)) i) 0 ∷ c ∷ []) mk)) (length (list_of vs)) (step m₂ Done)) =
+    whole ∙ ap (answering (Key (next_key m vertex_kind))) parts ∙ each-as (λ i a. insert_face_by searching a (get_or (list_of vs) i 0 ∷ get_or (list_of vs) (after (length (list_of vs)) i) 0 ∷ c ∷ []) mk) (Key (next_key m vertex_kind)) (length (list_of vs)) m₂ in
     rw (← gone, ← made, ← free, ← emk, ← held) all
 
 -- ---- arc bridge
@@ -66,18 +61,15 @@ arc_bridged m m' x y four per key el ec ek em =
 
 -- ---- bridge
 
-pub bridge-steps : (m : Mesh) (f g : ℕ) (forth back : Links) (a₁ f₁ a₂ f₂ : Table) (mₑ : Mesh) (told r : Answer)
-    → forth ≡ links_of (ring m f) → back ≡ links_of (ring m g)
-    → mesh m.vertices m.positions a₁ m.edges f₁ m.counters ≡ remove m f
-    → mesh m.vertices m.positions a₂ m.edges f₂ m.counters ≡ remove (mesh m.vertices m.positions a₁ m.edges f₁ m.counters) g
-    → step mₑ told ≡ each_in (λ i a. arc_bridge_by searching a (get_or (list_of forth) i 0) (get_or (reverse (list_of back)) i 0)) (length (list_of forth)) (mesh m.vertices m.positions a₂ m.edges f₂ m.counters)
+pub bridge-steps : (m m₁ m₂ : Mesh) (f g : ℕ) (forth back : Links) (mₑ : Mesh) (told r : Answer)
+    → forth ≡ links_of (ring m f) → back ≡ links_of (ring m g) → m₁ ≡ remove m f → m₂ ≡ remove m₁ g
+    → step mₑ told ≡ each_in (λ i a. arc_bridge_by searching a (get_or (list_of forth) i 0) (get_or (reverse (list_of back)) i 0)) (length (list_of forth)) m₂
     → step mₑ r ≡ answering (Key 0) (step mₑ told)
     → step mₑ r ≡ bridge_work_by searching m f g
 unfolding bridge_work_by
-bridge-steps m f g forth back a₁ f₁ a₂ f₂ mₑ told r ef eb gone gone₂ pairs whole =
+bridge-steps m m₁ m₂ f g forth back mₑ told r ef eb gone gone₂ pairs whole =
     let there : list_of forth ≡ ring m f = ap list_of ef ∙ ring-back m f in
     let again : list_of back ≡ ring m g = ap list_of eb ∙ ring-back m g in
-    let m₂ : Mesh = mesh m.vertices m.positions a₂ m.edges f₂ m.counters in
     let all : step mₑ r ≡ answering (Key 0) (up_to (λ i s. and_then s (λ a. arc_bridge_by searching a (get_or (list_of forth) i 0) (get_or (reverse (list_of back)) i 0))) (length (list_of forth)) (step m₂ Done)) =
     whole ∙ ap (answering (Key 0)) pairs ∙ each-as (λ i a. arc_bridge_by searching a (get_or (list_of forth) i 0) (get_or (reverse (list_of back)) i 0)) (Key 0) (length (list_of forth)) m₂ in
     rw (← gone, ← gone₂, ← there, ← again) all
@@ -93,49 +85,45 @@ both-in m n o left right first second none ours theirs e₁ e₂ e₀ es et en e
     let put : n ≡ left_in m left = en ∙ insert-sought m left 0 first none ours e₁ e₀ es in
     eo ∙ (λ i. put_sought ((et ∙ ap (λ (l : List ℕ). sought_for m l right) soon) i) (put i) right 0) ∙ sym (by-sought m (arcs_on m right ++ arcs_on m left) (left_in m left) right 0)
 
-module _ (m n : Mesh) (f s d : ℕ) (left right : Links) (el : left ≡ links_of (half m f s d)) (er : right ≡ links_of (half m f d s)) (gone : n ≡ remove m f) (r : Answer) (first : r ≡ insert_checks n (list_of left) (list_of left)) where
-  pub split-first : accepted r ≡ false → step n r ≡ split_work_by searching m f s d
+module _ (m n : Mesh) (f s d : ℕ) (left right : Links) (el : left ≡ links_of (half m f s d)) (er : right ≡ links_of (half m f d s)) (gone : n ≡ remove m f) where
+  pub split-first : (r : Refusal) → Refused r ≡ insert_checks n (list_of left) (list_of left) → step n (Refused r) ≡ split_work_by searching m f s d
   unfolding split_work_by
-  split-first nay =
+  split-first r first =
       rw (← half_back m f s d left el, ← half_back m f d s right er, ← gone)
-      (checked_refused n _ r (insert_checks n (list_of left) (list_of left)) first nay)
+      (checked_refused n _ r (insert_checks n (list_of left) (list_of left)) first)
 
-  pub split-second : accepted r ≡ true → (q : Answer) → q ≡ insert_checks n (list_of right) (list_of right) → accepted q ≡ false → step n q ≡ split_work_by searching m f s d
-  unfolding split_work_by
-  split-second ok q second nay =
-      rw (← half_back m f s d left el, ← half_back m f d s right er, ← gone)
-      (checked-done n _ r (insert_checks n (list_of left) (list_of left)) (step n q) first ok
-      (checked_refused n _ q (insert_checks n (list_of right) (list_of right)) second nay))
+  module _ (first : Done ≡ insert_checks n (list_of left) (list_of left)) where
+    pub split-second : (r : Refusal) → Refused r ≡ insert_checks n (list_of right) (list_of right) → step n (Refused r) ≡ split_work_by searching m f s d
+    unfolding split_work_by
+    split-second r second =
+        rw (← half_back m f s d left el, ← half_back m f d s right er, ← gone)
+        (checked-done n _ (insert_checks n (list_of left) (list_of left)) (step n (Refused r)) first
+        (checked_refused n _ r (insert_checks n (list_of right) (list_of right)) second))
 
-  pub split_done : accepted r ≡ true → (q : Answer) → q ≡ insert_checks n (list_of right) (list_of right) → accepted q ≡ true → (m' : Mesh) (from to : ℕ) → from ≡ key_at m.vertices s → to ≡ key_at m.vertices d
-      → m' ≡ both_in n (list_of left) (list_of right) → step m' (Arc from to) ≡ split_work_by searching m f s d
-  unfolding split_work_by
-  split_done ok q second fine m' from to ef et put =
-      rw (← half_back m f s d left el, ← half_back m f d s right er, ← gone)
-      (checked-done n _ r (insert_checks n (list_of left) (list_of left)) (step m' (Arc from to)) first ok
-      (checked-done n _ q (insert_checks n (list_of right) (list_of right)) (step m' (Arc from to)) second fine
-      (λ i. step (put i) (Arc (ef i) (et i)))))
+    pub split_done : Done ≡ insert_checks n (list_of right) (list_of right) → (m' : Mesh) (from to : ℕ) → from ≡ key_at m.vertices s → to ≡ key_at m.vertices d
+        → m' ≡ both_in n (list_of left) (list_of right) → step m' (Arc from to) ≡ split_work_by searching m f s d
+    unfolding split_work_by
+    split_done second m' from to ef et put =
+        rw (← half_back m f s d left el, ← half_back m f d s right er, ← gone)
+        (checked-done n _ (insert_checks n (list_of left) (list_of left)) (step m' (Arc from to)) first
+        (checked-done n _ (insert_checks n (list_of right) (list_of right)) (step m' (Arc from to)) second
+        (λ i. step (put i) (Arc (ef i) (et i)))))
 
 -- ---- extrude
 
 abbrev pub copy_at : Move → List ℕ → ℕ → Copies → Copies
 copy_at move vs i c = copy_one move (get_or vs i 0) c
 
--- the position of a vertex, moved
-moved-is : (m : Mesh) (move : Move) (v : ℕ) (old : Vertex) (place : Position) → old ≡ vertex_at m v → place ≡ moved old.position move → place ≡ moved_position m move v
-unfolding moved_position vertex_at
-moved-is m move v old place eo ep = ep ∙ ap (λ (x : Vertex). moved x.position move) eo
-
 one-copy : (move : Move) (v : ℕ) (m : Mesh) (l : List ℕ) → copy_one move v (record { tables = m; links = l }) ≡ record { tables = new_vertex m (moved_position m move v); links = l ++ (free_row m.vertices ∷ []) }
 unfolding copy_one
 one-copy move v m l = refl
 
-pub copies-more : (move : Move) (vs : List ℕ) (c₀ : Copies) (m m' : Mesh) (at : List ℕ) (i v x : ℕ) (old : Vertex) (place : Position)
-    → i < length at → record { tables = m; links = take i at } ≡ up_to (copy_at move vs) i c₀ → v ≡ get_or vs i 0 → old ≡ vertex_at m v → place ≡ moved old.position move → x ≡ free_row m.vertices → m' ≡ new_vertex m place
+pub copies-more : (move : Move) (vs : List ℕ) (c₀ : Copies) (m m' : Mesh) (at : List ℕ) (i v x : ℕ)
+    → i < length at → record { tables = m; links = take i at } ≡ up_to (copy_at move vs) i c₀ → v ≡ get_or vs i 0 → x ≡ free_row m.vertices → m' ≡ new_vertex m (moved_position m move v)
     → record { tables = m'; links = take (i + 1) (set at i x) } ≡ up_to (copy_at move vs) (i + 1) c₀
-copies-more move vs c₀ m m' at i v x old place l h ev eo ep ex em =
+copies-more move vs c₀ m m' at i v x l h ev ex em =
     let put : take (i + 1) (set at i x) ≡ take i at ++ (free_row m.vertices ∷ []) = rw (add-one i) (take-suc-set at i x l ∙ ap (λ (y : ℕ). take i at ++ (y ∷ [])) ex) in
-    let made : m' ≡ new_vertex m (moved_position m move (get_or vs i 0)) = em ∙ ap (new_vertex m) (moved-is m move v old place eo ep ∙ ap (moved_position m move) ev) in
+    let made : m' ≡ new_vertex m (moved_position m move (get_or vs i 0)) = em ∙ ap (λ (w : ℕ). new_vertex m (moved_position m move w)) ev in
     let now : ◌≡◌ {A = Copies} (record { tables = m'; links = take (i + 1) (set at i x) }) (record { tables = new_vertex m (moved_position m move (get_or vs i 0)); links = take i at ++ (free_row m.vertices ∷ []) }) = λ j. record { tables = made j; links = put j } in
     now ∙ sym (one-copy move (get_or vs i 0) m (take i at)) ∙ ap (copy_one move (get_or vs i 0)) h ∙ sym (up_to-more (copy_at move vs) i c₀)
 
@@ -160,31 +148,33 @@ module _ (m : Mesh) (vs ds : List ℕ) (m₁ : Mesh) (r₁ : Answer) (top : step
   top-goes ok s walls =
       rw (← top) (walls ∙ sym (each-told (λ i a. insert_face_by searching a (wall vs ds i) 0) (length vs) m₁) ∙ sym (each_from (λ i a. insert_face_by searching a (wall vs ds i) 0) Done (length vs) m₁ r₁ ok))
 
-pub extrude-steps : (m : Mesh) (f : ℕ) (move : Move) (vs ds : Links) (a₁ f₁ v₂ : Table) (p₂ : List (List Float)) (k₂ : List ℕ) (mₑ : Mesh) (told r : Answer)
-    → vs ≡ links_of (ring_vertices m f)
-    → mesh m.vertices m.positions a₁ m.edges f₁ m.counters ≡ remove m f
-    → record { tables = mesh v₂ p₂ a₁ m.edges f₁ k₂; links = list_of ds } ≡ copies (mesh m.vertices m.positions a₁ m.edges f₁ m.counters) move (list_of vs)
-    → step mₑ told ≡ answering Done (walls_on (list_of vs) (list_of ds) (insert_face_by searching (mesh v₂ p₂ a₁ m.edges f₁ k₂) (list_of ds) 0))
+pub extrude-steps : (m m₁ m₂ : Mesh) (f : ℕ) (move : Move) (vs ds : Links) (mₑ : Mesh) (told r : Answer)
+    → vs ≡ links_of (ring_vertices m f) → m₁ ≡ remove m f
+    → record { tables = m₂; links = list_of ds } ≡ copies m₁ move (list_of vs)
+    → step mₑ told ≡ answering Done (walls_on (list_of vs) (list_of ds) (insert_face_by searching m₂ (list_of ds) 0))
     → step mₑ r ≡ answering (Key (next_key m face_kind)) (step mₑ told)
     → step mₑ r ≡ extrude_work_by searching m f move
 unfolding extrude_work_by copies_by copy_one_by copies copy_one
-extrude-steps m f move vs ds a₁ f₁ v₂ p₂ k₂ mₑ told r evs gone made walls whole =
+extrude-steps m m₁ m₂ f move vs ds mₑ told r evs gone made walls whole =
     let held : list_of vs ≡ ring_vertices m f = ap list_of evs ∙ vertices-back m f in
-    let all : Step = walls_on (list_of vs) (list_of ds) (insert_face_by searching (mesh v₂ p₂ a₁ m.edges f₁ k₂) (list_of ds) 0) in
+    let all : Step = walls_on (list_of vs) (list_of ds) (insert_face_by searching m₂ (list_of ds) 0) in
     rw (← gone, ← held, ← made) (whole ∙ ap (answering (Key (next_key m face_kind))) walls ∙ answering-twice (Key (next_key m face_kind)) all)
 
 -- ---- arc extrude
 
-pub arc-extrude-steps : (m : Mesh) (x : ℕ) (move : Move) (b a : ℕ) (old₁ old₂ : Vertex) (place₁ place₂ : Position) (c d : ℕ) (v₁ : Table) (p₁ : List (List Float)) (k₁ : List ℕ) (v₂ : Table) (p₂ : List (List Float)) (k₂ : List ℕ) (mₑ : Mesh) (told r : Answer)
-    → b ≡ dest m x → a ≡ source m x
-    → old₁ ≡ vertex_at m b → place₁ ≡ moved old₁.position move → c ≡ free_row m.vertices → mesh v₁ p₁ m.arcs m.edges m.faces k₁ ≡ new_vertex m place₁
-    → old₂ ≡ vertex_at (mesh v₁ p₁ m.arcs m.edges m.faces k₁) a → place₂ ≡ moved old₂.position move → d ≡ free_row v₁ → mesh v₂ p₂ m.arcs m.edges m.faces k₂ ≡ new_vertex (mesh v₁ p₁ m.arcs m.edges m.faces k₁) place₂
-    → step mₑ told ≡ joined_by searching (mesh v₂ p₂ m.arcs m.edges m.faces k₂) x c d
-    → step mₑ r ≡ answering (Arc (next_key m vertex_kind) (get_or k₁ 0 0)) (step mₑ told)
+-- a vertex keeps the arcs
+same-source : (m n : Mesh) (pos : Position) (x : ℕ) → n ≡ new_vertex m pos → source m x ≡ source n x
+unfolding new_vertex put_vertex
+same-source m n pos x e = ap (λ (o : Mesh). source o x) (sym e)
+
+pub arc-extrude-steps : (m m₁ m₂ : Mesh) (x : ℕ) (move : Move) (b a c d : ℕ) (mₑ : Mesh) (told r : Answer)
+    → b ≡ dest m x → a ≡ source m x → c ≡ free_row m.vertices → m₁ ≡ new_vertex m (moved_position m move b)
+    → d ≡ free_row m₁.vertices → m₂ ≡ new_vertex m₁ (moved_position m₁ move a)
+    → step mₑ told ≡ joined_by searching m₂ x c d
+    → step mₑ r ≡ answering (Arc (next_key m vertex_kind) (next_key m₁ vertex_kind)) (step mₑ told)
     → step mₑ r ≡ arc_extrude_work_by searching m x move
 unfolding arc_extrude_work_by joined_by
-arc-extrude-steps m x move b a old₁ old₂ place₁ place₂ c d v₁ p₁ k₁ v₂ p₂ k₂ mₑ told r eb ea eo₁ ep₁ ec made₁ eo₂ ep₂ ed made₂ joined whole =
-    let m₁ : Mesh = mesh v₁ p₁ m.arcs m.edges m.faces k₁ in
-    let n₁ : m₁ ≡ new_vertex m (moved_position m move (dest m x)) = made₁ ∙ ap (new_vertex m) (moved-is m move b old₁ place₁ eo₁ ep₁ ∙ ap (moved_position m move) eb) in
-    let n₂ : mesh v₂ p₂ m.arcs m.edges m.faces k₂ ≡ new_vertex m₁ (moved_position m₁ move (source m x)) = made₂ ∙ ap (new_vertex m₁) (moved-is m₁ move a old₂ place₂ eo₂ ep₂ ∙ ap (moved_position m₁ move) ea) in
+arc-extrude-steps m m₁ m₂ x move b a c d mₑ told r eb ea ec made₁ ed made₂ joined whole =
+    let n₁ : m₁ ≡ new_vertex m (moved_position m move (dest m x)) = made₁ ∙ ap (λ (v : ℕ). new_vertex m (moved_position m move v)) eb in
+    let n₂ : m₂ ≡ new_vertex m₁ (moved_position m₁ move (source m₁ x)) = made₂ ∙ ap (λ (v : ℕ). new_vertex m₁ (moved_position m₁ move v)) (ea ∙ same-source m m₁ _ x made₁) in
     rw (← n₁, ← n₂, ← ed, ← ec, ← joined) whole

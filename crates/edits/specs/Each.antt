@@ -1,6 +1,6 @@
 -- An edit that repeats a part: each turn on what the one before left, until one is refused. And the last parts of arc extrude and of split.
 use Rattle.std.specs.Prelude.{ℕ, List, ◌++◌}
-use Rattle.rules.specs.declared.Answer.TheVariants.{Done}
+use Rattle.rules.specs.Answer.{Done}
 use Rattle.rules.specs.Table.{up_to}
 use Rattle.rules.specs.Mesh.{Mesh, find_arc}
 use Rattle.rules.specs.Step.{Step, step, and_then, answering}

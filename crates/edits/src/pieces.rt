@@ -1,31 +1,35 @@
-// Small parts of the edits: the answer of a whole from the answer of its part, a vertex's key, a list read from its end.
+// Small parts of the edits: a vertex's key, its moved copy, a list read from its end.
 
 ghost use Rattle.std.specs.Prelude.{◌≡◌, reverse, get_or};
-ghost use Rattle.rules.specs.Mesh.{Mesh, key_at, list_of};
-ghost use Rattle.rules.specs.Step as Step;
+ghost use Rattle.rules.specs.Table.{free_row};
+ghost use Rattle.rules.specs.Mesh.{key_at, list_of};
+ghost use Rattle.rules.specs.Lent.{mesh_of, SameMesh};
+ghost use Rattle.rules.specs.Link.{new_vertex};
+ghost use Rattle.rules.specs.Extrude.{moved_position};
+ghost use Rattle.edges.specs.Free.{UsedBefore};
 
-use rules::{Answer, Links, VertexRow};
-use tables::{answers, rows};
-
-// The answer of the whole, unless what was told is a refusal.
-pub fn answering(a: Answer, told: Answer) -> Answer
-    ensures { (m : Mesh) → Step.step m result ≡ Step.answering a (Step.step m told) }
-{
-    if answers::accepted(told) {
-        return a;
-    }
-    told
-}
+use edges::vertex;
+use rules::{Links, MeshMut, Move, VertexRow};
+use tables::{points, rows, vertices};
 
 // The key of the vertex that a link names.
 pub fn key_at(vertices: &[VertexRow], v: u32) -> u32
     ensures { result ≡ key_at vertices.now v }
 {
-    let first = rows::cell2(vertices, v, 0);
-    if first == 0 {
-        return 0;
-    }
-    first - 1
+    rows::cell(vertices, v, 0).saturating_sub(1)
+}
+
+// The copy of a vertex, moved, in the lowest unused row, which is looked for from a row on; the row's link.
+pub fn copied(mesh: &mut MeshMut, from: u32, v: u32, by: Move) -> u32
+    requires { UsedBefore mesh.old.vertices.now from }
+    ensures row { result ≡ free_row mesh.old.vertices.now }
+    ensures vertex { mesh_of mesh.new ≡ new_vertex (mesh_of mesh.old) (moved_position (mesh_of mesh.old) by v) }
+    ensures same { SameMesh mesh.old mesh.new }
+{
+    let view = mesh.view();
+    let old = vertices::vertex_at(view.vertices, view.positions, v);
+    let place = points::moved(old.position, by);
+    vertex::new_vertex(mesh, from, place)
 }
 
 // The one at a place counted from the end, or 0 past its first.

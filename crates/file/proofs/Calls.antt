@@ -10,7 +10,7 @@ use lib.Seq.{take-append_seam, drop-append_seam}
 use lib.Dec.{T, eqb}
 use borrow.Author.Tests.{le-ltb, lt-ltb, ne_eqb}
 use Rattle.rules.specs.declared.Refusal.TheVariants.{Tables, TopologyMalformed}
-use Rattle.rules.specs.declared.Answer.TheVariants.{Done, Refused}
+use Rattle.rules.specs.Answer.{Done, Refused}
 use Rattle.rules.specs.Mesh.{Mesh, Room}
 use Rattle.rules.specs.Sound.{sound}
 use Rattle.rules.specs.Step.{told, number_of}

@@ -1,3 +1,4 @@
+pub mod Ands
 pub mod Widths
 pub mod Finite
 pub mod Made

@@ -1,23 +1,30 @@
 -- The row that is made of a record, from its cells and the links found; and what a file that rows can hold says of each record.
 use Prim.Native.Nat.{ℕ, ◌+◌, ◌<◌}
-use mathlib.Core.Path.{◌≡◌, subst}
-use mathlib.Core.Bool.{true, ◌&&◌}
+use mathlib.Core.Path.{◌≡◌, ap, sym, subst, ◌∙◌}
+use mathlib.Core.Bool.{Bool, true, false, ◌&&◌, cond, false≢true}
 use mathlib.Core.List.{List, [], ◌∷◌}
 use lib.ListN.{length, get_or, take, drop}
 use lib.Seq.{drop-drop}
-use lib.Dec.{T, ltb→lt}
+use lib.Dec.{T, eqb, ltb→lt}
+use Rattle.std.specs.Prelude.{Option, None, Some}
+use Rattle.std.specs.Option.{is_some, unwrap_or}
+use Rattle.fills.specs.declared.holding.StorableFile.{StorableFile}
+use Rattle.bodies.proofs.Files.{whole}
 use lib.Ieee.{Float, binary64, of_bits}
 use lib.Ieee.Fits.{and_l, and_r}
 use Rattle.rules.specs.Table.{Table, every}
 use Rattle.rules.specs.Point.{finite_number}
 use Rattle.rules.specs.Script.{Text}
 use Rattle.proved.proofs.Rows.{T_true, every-at}
-use Rattle.file.specs.File.{Contents, cell_in, row_in, contents_in, by_key, by_ends, unless_none, vertex_row, position_row, arc_row, edge_row, face_row}
+use Rattle.file.specs.File.{none_cell, Contents, cell_in, row_in, contents_in, by_key, by_ends, unless_none, vertex_row, position_row, arc_row, edge_row, face_row}
 use Rattle.bodies.specs.Bodies.{records_in}
-use Rattle.fills.specs.Fills.{key_fits, finite_record, storable, Storable}
+use Rattle.fills.specs.Fills.{name_in, key_fits, finite_record, storable, Storable}
 use Rattle.fills.proofs.Finite.{finite-is}
 
 -- ---- what rows can hold
+
+pub stored : (f : StorableFile) → Storable f.whole.file.text.now
+stored f = record { whole = whole f.whole; rows = f.rows }
 
 key-held : (rows : Table) (i : ℕ) → T (every key_fits rows) → i < length rows → get_or (get_or rows i []) 0 0 < 4294967295
 unfolding key_fits
@@ -67,6 +74,23 @@ module _ (t : Text) (S : Storable t) where
         (and_r (finite_number (of_bits binary64 (get_or (get_or (records_in t 0) i []) 1 0))) _ three)))
 
 -- ---- rows
+
+-- what is found of a cell that names a key, or says none
+pub when-named : (f : ℕ → ℕ) (cell k link : ℕ) (o : Option ℕ) → o ≡ name_in cell → o ≡ Some k → link ≡ f k → link ≡ unless_none cell (f cell)
+unfolding unless_none
+when-named f cell k link o e q h = go (eqb cell none_cell) (sym e ∙ q)
+  where
+    go : (b : Bool) → cond b None (Some cell) ≡ Some k → link ≡ cond b 0 (f cell)
+    go true n = absurd (false≢true (ap is_some n))
+    go false n = h ∙ ap f (sym (ap (λ (x : Option ℕ). unwrap_or x 0) n))
+
+pub when-none : (cell l link : ℕ) (o : Option ℕ) → o ≡ name_in cell → o ≡ None → link ≡ 0 → link ≡ unless_none cell l
+unfolding unless_none
+when-none cell l link o e q h = go (eqb cell none_cell) (sym e ∙ q)
+  where
+    go : (b : Bool) → cond b None (Some cell) ≡ None → link ≡ cond b 0 l
+    go true n = h
+    go false n = absurd (false≢true (sym (ap is_some n)))
 
 module _ (c : Contents) (r : List ℕ) where
   pub vertex-made : (k e l : ℕ) → k ≡ get_or r 0 0 → e ≡ get_or r 4 0 → l ≡ unless_none e (by_ends c k e) → (k + 1) ∷ l ∷ [] ≡ vertex_row c r

@@ -10,7 +10,7 @@ use lib.ListN.{length, get_or, set, length-set}
 use lib.Seq.{get_or-set_other}
 use lib.Dec.{eqb}
 use borrow.Author.Tests.{ne_eqb, eqb-true, eqb-false}
-use Rattle.rules.specs.declared.Answer.{Answer}
+use Rattle.rules.specs.Answer.{Answer}
 use Rattle.rules.specs.Table.{Table, cell, put, put_row, free_row, up_to, after, or_else}
 use Rattle.rules.specs.Mesh.{Mesh, previous, next, face, opposite, find_arc}
 use Rattle.rules.specs.Link.{connect, set_face, new_arc, new_edge, get_or_insert_edge}
@@ -167,7 +167,7 @@ filled-get m a b = either_way_lem (eqb (find_arc m a b) 0) m (new_edge m a b) m 
 
 -- ---- those of rule 5
 
-filled-edges : (per : List ℕ) (m : Mesh) → Filled m (edges_in per m)
+pub filled-edges : (per : List ℕ) (m : Mesh) → Filled m (edges_in per m)
 unfolding edges_in
 filled-edges per m = in_turns _ (λ i a. filled-get a (get_or per i 0) (get_or per (after (length per) i) 0)) (length per) m
 

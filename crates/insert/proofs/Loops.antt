@@ -6,9 +6,8 @@ use mathlib.Core.List.{List, [], ◌++◌, append-nil}
 use lib.ListN.{length, get_or}
 use lib.Dec.{eqb}
 use borrow.Author.Tests.{eq-eqb, ne_eqb}
-use Rattle.rules.specs.declared.Links.{Links}
 use Rattle.rules.specs.Table.{Table, cell, put, up_to, after, or_else, free_row}
-use Rattle.rules.specs.Mesh.{Mesh, mesh, with_arcs, opposite_of, list_of}
+use Rattle.rules.specs.Mesh.{Mesh, with_arcs, opposite_of}
 use Rattle.rules.specs.Link.{get_or_insert_edge}
 use Rattle.rules.specs.Insert.{arc_at, edges_in, new_face}
 use Rattle.rules.proofs.Scan.{up_to-more}
@@ -39,8 +38,9 @@ interior-more t₀ xs f i n j x y en ej ex ey et e₁ e₂ = rw (up_to-more, ←
 abbrev pub exterior_in : Table → List ℕ → List ℕ → List ℕ → ℕ → Table → Table
 exterior_in edges outs backs xs i t = exterior_to edges (get_or outs i 0) (get_or backs (after (length xs) i) 0) (get_or xs i 0) t
 
-pub exterior-more : {t t₁ : Table} (t₀ edges : Table) (outs backs xs : List ℕ) (i n j out back x : ℕ) → n ≡ length xs → j ≡ after n i → out ≡ get_or outs i 0 → back ≡ get_or backs j 0 → x ≡ get_or xs i 0 → t ≡ up_to (exterior_in edges outs backs xs) i t₀ → t₁ ≡ exterior_to edges out back x t → t₁ ≡ up_to (exterior_in edges outs backs xs) (i + 1) t₀
-exterior-more t₀ edges outs backs xs i n j out back x en ej eo eb ex et e = rw (up_to-more, ← et, e, eb, eo, ex, ej, en)
+pub exterior-more : {m n : Mesh} (m₀ : Mesh) (outs backs xs : List ℕ) (i : ℕ) {k j out back x : ℕ} → k ≡ length xs → j ≡ after k i → out ≡ get_or outs i 0 → back ≡ get_or backs j 0 → x ≡ get_or xs i 0
+    → m ≡ with_arcs m₀ (up_to (exterior_in m₀.edges outs backs xs) i m₀.arcs) → n ≡ with_arcs m (exterior_to m.edges out back x m.arcs) → n ≡ with_arcs m₀ (up_to (exterior_in m₀.edges outs backs xs) (i + 1) m₀.arcs)
+exterior-more m₀ outs backs xs i ek ej eo eb ex em en = rw (up_to-more, en, em, eb, eo, ex, ej, ek)
 
 -- at one arc, by what its ends are linked to
 pub exterior-held : (edges : Table) (out back x : ℕ) (t : Table) (o held : ℕ) → o ≡ opposite_of t edges x → held ≡ cell t o 4 → (held ≡ 0 → ⊥) → t ≡ exterior_to edges out back x t
@@ -60,18 +60,23 @@ exterior-free edges out back x t t₁ t₂ o held eo eh h before other after-o e
 
 -- ---- the whole insert, in the code's steps
 
-pub put-sought-steps : (m : Mesh) (per : List ℕ) (s : Sought) (mark : ℕ) (v₁ a₁ e₁ : Table) (k₁ : List ℕ) (xs : Links) (x f : ℕ) (f₂ : Table) (k₂ : List ℕ) (a₂ a₃ : Table)
-    → mesh v₁ m.positions a₁ e₁ m.faces k₁ ≡ edges_in per m → list_of xs ≡ arcs_of a₁ per → x ≡ get_or (list_of xs) 0 0 → f ≡ free_row m.faces
-    → mesh v₁ m.positions a₁ e₁ f₂ k₂ ≡ new_face (mesh v₁ m.positions a₁ e₁ m.faces k₁) x mark → a₂ ≡ interior_by (list_of xs) f a₁ → a₃ ≡ exterior_by e₁ s.outs s.backs (list_of xs) a₂
-    → mesh v₁ m.positions a₃ e₁ f₂ k₂ ≡ put_sought s m per mark
-put-sought-steps m per s mark v₁ a₁ e₁ k₁ xs x f f₂ k₂ a₂ a₃ edged held first free faced inside outside =
-    let m₁ : Mesh = mesh v₁ m.positions a₁ e₁ m.faces k₁ in
-    let isx : x ≡ pair_arc a₁ per 0 = first ∙ ap (λ (l : List ℕ). get_or l 0 0) held ∙ pair-listed a₁ per 0 in
-    let isa : a₃ ≡ exterior_by e₁ s.outs s.backs (arcs_of a₁ per) (interior_by (arcs_of a₁ per) (free_row m.faces) a₁) = rw (outside, inside, held, free) in
-    ap (λ (n : Mesh). with_arcs n a₃) faced
-    ∙ ap (λ (y : ℕ). with_arcs (new_face m₁ y mark) a₃) isx
-    ∙ ap (λ (t : Table). with_arcs (new_face m₁ (pair_arc a₁ per 0) mark) t) isa
-    ∙ ap (λ (n : Mesh). with_arcs (new_face n (pair_arc n.arcs per 0) mark) (exterior_by n.edges s.outs s.backs (arcs_of n.arcs per) (interior_by (arcs_of n.arcs per) (free_row n.faces) n.arcs))) edged
+-- the exterior after the interior, on the mesh that has the face
+abbrev linked : Sought → List ℕ → ℕ → Mesh → Mesh
+linked s xs f n = with_arcs n (exterior_by n.edges s.outs s.backs xs (interior_by xs f n.arcs))
+
+pub put-sought-steps : (m : Mesh) {m₁ m₂ m₃ : Mesh} (per : List ℕ) (s : Sought) (mark : ℕ) {xs : List ℕ} {x f : ℕ} {a₂ : Table}
+    → m₁ ≡ edges_in per m → xs ≡ arcs_of m₁.arcs per → x ≡ get_or xs 0 0 → f ≡ free_row m₁.faces → m₂ ≡ new_face m₁ x mark
+    → a₂ ≡ interior_by xs f m₂.arcs → m₃ ≡ with_arcs m₂ (exterior_by m₂.edges s.outs s.backs xs a₂) → m₃ ≡ put_sought s m per mark
+unfolding new_face
+put-sought-steps m {m₁} {m₂} {m₃} per s mark {xs} {x} {f} {a₂} edged held first free faced inside outside =
+    let isx : x ≡ pair_arc m₁.arcs per 0 = first ∙ ap (λ (l : List ℕ). get_or l 0 0) held ∙ pair-listed m₁.arcs per 0 in
+    outside
+    ∙ ap (λ (t : Table). with_arcs m₂ (exterior_by m₂.edges s.outs s.backs xs t)) inside
+    ∙ ap (linked s xs f) faced
+    ∙ ap (λ (l : List ℕ). linked s l f (new_face m₁ x mark)) held
+    ∙ ap (λ (y : ℕ). linked s (arcs_of m₁.arcs per) f (new_face m₁ y mark)) isx
+    ∙ ap (λ (g : ℕ). linked s (arcs_of m₁.arcs per) g (new_face m₁ (pair_arc m₁.arcs per 0) mark)) free
+    ∙ ap (λ (n : Mesh). linked s (arcs_of n.arcs per) (free_row n.faces) (new_face n (pair_arc n.arcs per 0) mark)) edged
     ∙ sym (put-sought-by m per s mark)
 
 -- ---- the insert by the code's makers

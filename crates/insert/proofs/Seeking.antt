@@ -12,6 +12,7 @@ use mathlib.Core.Logic.{◌⊎◌, ⊎_elim, inl, inr}
 use lib.ListN.{length, length-map}
 use lib.Dec.{eqb}
 use borrow.Author.Tests.{eq-eqb, ne_eqb, not-true, not-false}
+use Rattle.std.specs.List.{list_any}
 use Rattle.rules.specs.Table.{Table, cell, has, times}
 use Rattle.rules.specs.Mesh.{Mesh, opposite_of, list_of}
 use Rattle.rules.specs.Link.{walk, turn_in}
@@ -45,6 +46,20 @@ module _ (arcs : Table) (a b : List ℕ) (x f : ℕ) (ef : f ≡ cell arcs x 4) 
   pub held-others : (r : Bool) → f ≡ 0 → has a x ≡ false → r ≡ has b x → r ≡ held_in arcs (a ++ b) x
   unfolding held_in
   held-others r e h q = rw (eq-eqb (cell arcs x 4) 0 (sym ef ∙ e), has_both a b x, h) q
+
+-- ---- a list looked through
+
+pub any_is : (l : List ℕ) (x : ℕ) → list_any (λ y. eqb y x) l ≡ has l x
+unfolding has
+any_is [] x = refl
+any_is (y ∷ ys) x = rw (same x y, any_is ys x)
+  where
+    same : (x y : ℕ) → eqb y x ≡ eqb x y
+    same x y = go (ℕ_discrete x y)
+      where
+        go : Dec (x ≡ y) → eqb y x ≡ eqb x y
+        go (yes e) = rw e
+        go (no n) = rw (ne_eqb x y n, ne_eqb y x (λ e. n (sym e)))
 
 -- ---- the search of a walk
 

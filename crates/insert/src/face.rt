@@ -1,7 +1,8 @@
 // A face insert whose checks have passed. Document 01's rule 5.
 
-ghost use Rattle.std.specs.Prelude.{◌≡◌, List, Float};
-ghost use Rattle.rules.specs.Mesh.{list_of, mesh};
+ghost use Rattle.std.specs.Prelude.{◌≡◌};
+ghost use Rattle.rules.specs.Mesh.{list_of};
+ghost use Rattle.rules.specs.Lent.{mesh_of, SameMesh};
 ghost use Rattle.edges.specs.Free.{UsedBefore};
 ghost use Rattle.pairs.specs.Pairs.{arcs_of};
 ghost use Rattle.makers.specs.Search.{arcs_on};
@@ -10,95 +11,63 @@ ghost use Rattle.insert.specs.Sought.{sought_of, put_sought};
 
 use crate::search::Sought;
 use crate::{perimeter, search};
+use edges::face;
 use edges::free::Lowest;
-use pairs::near::NEAR;
-use pairs::{MARKS, near};
-use rules::{ArcRow, EdgeRow, FaceRow, Links, VertexRow};
+use pairs::near::Nearby;
+use rules::{Links, MeshMut};
 
 // The edges, the face with the first perimeter arc, the interior, then the exterior by what was found in the lists. found are the perimeter's arcs
 // as they are; unused rows are looked for from these on.
 pub fn put_face_sought(
-    vertices: &mut [VertexRow],
-    arcs: &mut [ArcRow],
-    edges: &mut [EdgeRow],
-    faces: &mut [FaceRow],
-    counters: &mut [u32; 3],
+    mesh: &mut MeshMut,
     sought: Sought,
     per: Links,
     found: Links,
     from: Lowest,
     mark: u32,
 )
-    requires found_value { list_of found ≡ arcs_of arcs.old (list_of per) }
-    requires used_before { UsedBefore arcs.old from.arc × (UsedBefore edges.old from.edge × UsedBefore faces.old from.face) }
-    ensures { (p : List (List Float)) →
-        mesh vertices.new p arcs.new edges.new faces.new counters.new
-        ≡ put_sought (sought_of sought) (mesh vertices.old p arcs.old edges.old faces.old counters.old) (list_of per) mark }
+    requires found_value { list_of found ≡ arcs_of mesh.old.arcs.now (list_of per) }
+    requires used_before { UsedBefore mesh.old.arcs.now from.arc
+        × (UsedBefore mesh.old.edges.now from.edge × UsedBefore mesh.old.faces.now from.face) }
+    ensures face { mesh_of mesh.new ≡ put_sought (sought_of sought) (mesh_of mesh.old) (list_of per) mark }
+    ensures same { SameMesh mesh.old mesh.new }
 {
-    let outs = sought.outs;
-    let backs = sought.backs;
-    let given = perimeter::edges_in(vertices, arcs, edges, counters, per, found, from);
-    let ring = perimeter::arcs_told(arcs, per, given);
-    let face = edges::face::new_face(faces, counters, from.face, lists::item(ring, 0), mark);
-    perimeter::interior(arcs, ring, face);
-    perimeter::exterior(arcs, edges, outs, backs, ring);
+    let given = perimeter::edges_in(mesh, per, found, from);
+    let ring = perimeter::arcs_told(mesh.view().arcs, per, given);
+    let face = face::new_face(mesh, from.face, lists::item(ring, 0), mark);
+    perimeter::interior(mesh.arcs, ring, face);
+    perimeter::exterior(mesh, sought.outs, sought.backs, ring);
 }
 
 // The insert of a perimeter that the checks let pass: its lists are searched first, where its own arcs will be held. found are these arcs; unused
 // rows are looked for from these on.
-pub fn insert_by(
-    vertices: &mut [VertexRow],
-    arcs: &mut [ArcRow],
-    edges: &mut [EdgeRow],
-    faces: &mut [FaceRow],
-    counters: &mut [u32; 3],
-    per: Links,
-    found: Links,
-    from: Lowest,
-    mark: u32,
-)
-    requires found_value { list_of found ≡ arcs_of arcs.old (list_of per) }
-    requires used_before { UsedBefore arcs.old from.arc × (UsedBefore edges.old from.edge × UsedBefore faces.old from.face) }
-    ensures { (p : List (List Float)) →
-        mesh vertices.new p arcs.new edges.new faces.new counters.new
-        ≡ put_face_by searching (mesh vertices.old p arcs.old edges.old faces.old counters.old)
-        (arcs_on (mesh vertices.old p arcs.old edges.old faces.old counters.old) (list_of per))
-        (mesh vertices.old p arcs.old edges.old faces.old counters.old) (list_of per) mark }
+pub fn insert_by(mesh: &mut MeshMut, per: Links, found: Links, from: Lowest, mark: u32)
+    requires found_value { list_of found ≡ arcs_of mesh.old.arcs.now (list_of per) }
+    requires used_before { UsedBefore mesh.old.arcs.now from.arc
+        × (UsedBefore mesh.old.edges.now from.edge × UsedBefore mesh.old.faces.now from.face) }
+    ensures face { mesh_of mesh.new
+        ≡ put_face_by searching (mesh_of mesh.old) (arcs_on (mesh_of mesh.old) (list_of per)) (mesh_of mesh.old) (list_of per) mark }
+    ensures same { SameMesh mesh.old mesh.new }
 {
-    let sought = search::search_lists(vertices, arcs, edges, per, found, search::none());
-    put_face_sought(
-        vertices, arcs, edges, faces, counters, sought, per, found, from, mark,
-    );
+    let sought = search::search_lists(mesh.view(), per, found, search::none());
+    put_face_sought(mesh, sought, per, found, from, mark);
 }
 
 // The insert of a perimeter whose arcs are found in one pass, which finds the lowest unused row too.
-pub fn insert_work(
-    vertices: &mut [VertexRow],
-    arcs: &mut [ArcRow],
-    edges: &mut [EdgeRow],
-    faces: &mut [FaceRow],
-    counters: &mut [u32; 3],
-    per: Links,
-    mark: u32,
-)
-    ensures { (p : List (List Float)) →
-        mesh vertices.new p arcs.new edges.new faces.new counters.new
-        ≡ put_face_by searching (mesh vertices.old p arcs.old edges.old faces.old counters.old)
-        (arcs_on (mesh vertices.old p arcs.old edges.old faces.old counters.old) (list_of per))
-        (mesh vertices.old p arcs.old edges.old faces.old counters.old) (list_of per) mark }
+pub fn insert_work(mesh: &mut MeshMut, per: Links, mark: u32)
+    ensures face { mesh_of mesh.new
+        ≡ put_face_by searching (mesh_of mesh.old) (arcs_on (mesh_of mesh.old) (list_of per)) (mesh_of mesh.old) (list_of per) mark }
+    ensures same { SameMesh mesh.old mesh.new }
 {
     lists::known_few(per);
-    let mut seen = [false; MARKS];
-    near::mark(&mut seen, per);
-    let mut links = [0u32; NEAR];
-    let by = near::list_near(&mut links, arcs, &seen, 2 * lists::size(per) + 1);
-    let found = near::perimeter_arcs_near(arcs, per, &seen, &links, by);
+    let arcs = mesh.view().arcs;
+    let mut near = Nearby::new();
+    near.mark(per);
+    near.list(arcs, 2 * lists::size(per) + 1);
+    let found = near.perimeter_arcs(arcs, per);
     let from = Lowest {
-        arc: by.first,
-        edge: 0,
-        face: 0,
+        arc: near.first,
+        ..Lowest::default()
     };
-    insert_by(
-        vertices, arcs, edges, faces, counters, per, found, from, mark,
-    );
+    insert_by(mesh, per, found, from, mark);
 }

@@ -9,8 +9,8 @@ use lib.Dec.{T, eqb}
 use Rattle.rules.specs.declared.Edit.{Edit}
 use Rattle.rules.specs.declared.Refusal.{Refusal}
 use Rattle.rules.specs.declared.Refusal.TheVariants.{Tables, Argument, TopologyMalformed, TopologyNotFound, TopologyConflict, ArityNonUniform, NoRoom, WouldBreak, SamePlace}
-use Rattle.rules.specs.declared.Answer.{Answer}
-use Rattle.rules.specs.declared.Answer.TheVariants.{Key, Arc, Mark, Arity, Done, Refused}
+use Rattle.rules.specs.Answer.{Answer}
+use Rattle.rules.specs.Answer.{Key, Arc, Mark, Arity, Done, Refused}
 use Rattle.rules.specs.Mesh.{Mesh, Room}
 use Rattle.rules.specs.Step.{Step, step, stops, told, accepted, number_of}
 use Rattle.rules.specs.Sound.{sound}

@@ -9,7 +9,7 @@ use mathlib.Core.List.{List}
 use lib.ListN.{length}
 use lib.Dec.{T, eqb}
 use borrow.Author.Tests.{ne_eqb, eq-eqb}
-use Rattle.rules.specs.declared.Answer.TheVariants.{Refused}
+use Rattle.rules.specs.Answer.{Refused}
 use Rattle.rules.specs.declared.Refusal.TheVariants.{TopologyNotFound, TopologyConflict}
 use Rattle.rules.specs.Table.{some_below}
 use Rattle.rules.specs.Mesh.{Mesh}

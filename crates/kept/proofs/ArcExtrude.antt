@@ -11,7 +11,7 @@ use lib.Dec.{T, eqb}
 use borrow.Author.Tests.{ne_eqb, eq-eqb}
 use Rattle.rules.specs.declared.Position.{Position}
 use Rattle.rules.specs.declared.Move.{Move}
-use Rattle.rules.specs.declared.Answer.TheVariants.{Arc}
+use Rattle.rules.specs.Answer.{Arc}
 use Rattle.rules.specs.Table.{has}
 use Rattle.rules.specs.Mesh.{Mesh, source, dest, find_arc, vertex_kind, next_key}
 use Rattle.rules.specs.Point.{finite_position}

@@ -9,7 +9,7 @@ use mathlib.Core.List.{List, ◌++◌, reverse}
 use lib.ListN.{length, get_or}
 use lib.Dec.{T, eqb}
 use borrow.Author.Tests.{ne_eqb, eq-eqb}
-use Rattle.rules.specs.declared.Answer.TheVariants.{Key, Done, Refused}
+use Rattle.rules.specs.Answer.{Key, Done, Refused}
 use Rattle.rules.specs.declared.Refusal.TheVariants.{TopologyNotFound, ArityNonUniform}
 use Rattle.rules.specs.Table.{after, has}
 use Rattle.rules.specs.Mesh.{Mesh, source, dest}

@@ -11,7 +11,7 @@ use lib.Seq.{get_or-append-add}
 use lib.Dec.{T}
 use Rattle.rules.specs.declared.Position.{Position}
 use Rattle.rules.specs.declared.Move.{Move}
-use Rattle.rules.specs.declared.Answer.TheVariants.{Key}
+use Rattle.rules.specs.Answer.{Key}
 use Rattle.rules.specs.Table.{up_to, after, has}
 use Rattle.rules.specs.Mesh.{Mesh, opposite, face_kind, next_key}
 use Rattle.rules.specs.Point.{finite_position}

@@ -12,8 +12,8 @@ use borrow.Author.Tests.{lt-ltb, le-leb, lt-leb, ltb-true, leb-false}
 use Rattle.rules.specs.declared.Edit.TheVariants.{FaceInsert}
 use Rattle.rules.specs.declared.Refusal.{Refusal}
 use Rattle.rules.specs.declared.Refusal.TheVariants.{TopologyMalformed, TopologyNotFound, TopologyConflict, SamePlace}
-use Rattle.rules.specs.declared.Answer.{Answer}
-use Rattle.rules.specs.declared.Answer.TheVariants.{Done, Refused}
+use Rattle.rules.specs.Answer.{Answer}
+use Rattle.rules.specs.Answer.{Done, Refused}
 use Rattle.rules.specs.Mesh.{Mesh, Room, ring_limit}
 use Rattle.rules.specs.Table.{has, distinct}
 use Rattle.rules.specs.Step.{told, accepted, number_of}

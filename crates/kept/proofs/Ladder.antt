@@ -9,7 +9,7 @@ use mathlib.Core.Bool.{not}
 use mathlib.Core.List.{List}
 use lib.ListN.{length}
 use lib.Dec.{T, eqb}
-use Rattle.rules.specs.declared.Answer.{Answer}
+use Rattle.rules.specs.Answer.{Answer}
 use Rattle.rules.specs.Table.{after, has}
 use Rattle.rules.specs.Mesh.{Mesh, opposite, face_kind, next_key}
 use Rattle.rules.specs.Step.{accepted, checked}

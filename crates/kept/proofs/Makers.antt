@@ -10,7 +10,7 @@ use lib.ListN.{length}
 use lib.Dec.{eqb}
 use borrow.Author.Tests.{ne_eqb, eq-eqb}
 use Rattle.rules.specs.declared.Position.{Position}
-use Rattle.rules.specs.declared.Answer.TheVariants.{Key}
+use Rattle.rules.specs.Answer.{Key}
 use Rattle.rules.specs.Table.{free_row, up_to}
 use Rattle.rules.specs.Mesh.{Mesh, find_arc, face_kind, next_key}
 use Rattle.rules.specs.Link.{new_vertex, new_edge, get_or_insert_edge}

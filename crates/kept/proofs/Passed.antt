@@ -10,7 +10,7 @@ use mathlib.Core.List.{List, [], ◌∷◌, map}
 use lib.ListN.{length, get_or, length-map}
 use lib.Dec.{T, eqb, ltb, T_not}
 use borrow.Author.Tests.{ltb-false, ne_eqb}
-use Rattle.rules.specs.declared.Answer.TheVariants.{Done, Refused}
+use Rattle.rules.specs.Answer.{Done, Refused}
 use Rattle.rules.specs.declared.Refusal.TheVariants.{TopologyMalformed, TopologyNotFound, TopologyConflict, SamePlace}
 use Rattle.rules.specs.Table.{has, distinct, some_below}
 use Rattle.rules.specs.Mesh.{Mesh, face, key_at, find_vertex}

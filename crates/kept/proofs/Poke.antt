@@ -8,7 +8,7 @@ use mathlib.Core.List.{List, [], ◌∷◌}
 use lib.ListN.{length, get_or}
 use lib.Dec.{T, eqb}
 use Rattle.rules.specs.declared.Position.{Position}
-use Rattle.rules.specs.declared.Answer.TheVariants.{Key, Done}
+use Rattle.rules.specs.Answer.{Key, Done}
 use Rattle.rules.specs.declared.Edit.TheVariants.{FacePoke}
 use Rattle.rules.specs.Table.{Table, cell, after, has}
 use Rattle.rules.specs.Mesh.{Mesh, Room, mark, find_face, vertex_kind, next_key}

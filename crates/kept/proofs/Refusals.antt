@@ -9,8 +9,8 @@ use lib.Dec.{eqb, ltb}
 use Rattle.rules.specs.declared.Edit.{Edit}
 use Rattle.rules.specs.declared.Edit.TheVariants.{VertexInsert, FaceInsert, FaceRemove, FaceSplit, FacePoke, FaceBridge, FaceExtrude, ArcBridge, ArcExtrude}
 use Rattle.rules.specs.declared.Refusal.{Refusal}
-use Rattle.rules.specs.declared.Answer.{Answer}
-use Rattle.rules.specs.declared.Answer.TheVariants.{Key, Arc, Mark, Arity, Done, Refused}
+use Rattle.rules.specs.Answer.{Answer}
+use Rattle.rules.specs.Answer.{Key, Arc, Mark, Arity, Done, Refused}
 use Rattle.rules.specs.Table.{up_to, has, some_below}
 use Rattle.rules.specs.Mesh.{Mesh, face}
 use Rattle.rules.specs.Link.{ring, ring_vertices}

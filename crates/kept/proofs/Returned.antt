@@ -10,8 +10,8 @@ use Rattle.rules.specs.declared.Position.{Position}
 use Rattle.rules.specs.declared.Move.{Move}
 use Rattle.rules.specs.declared.Edit.{Edit}
 use Rattle.rules.specs.declared.Edit.TheVariants.{VertexInsert, FaceInsert, FacePoke, FaceExtrude, ArcBridge, ArcExtrude}
-use Rattle.rules.specs.declared.Answer.{Answer}
-use Rattle.rules.specs.declared.Answer.TheVariants.{Key, Arc}
+use Rattle.rules.specs.Answer.{Answer}
+use Rattle.rules.specs.Answer.{Key, Arc}
 use Rattle.rules.specs.Mesh.{Mesh, Room, key_limit, dest, vertex_kind, next_key}
 use Rattle.rules.specs.Link.{new_vertex, put_vertex}
 use Rattle.rules.specs.Step.{Step, step, told, accepted, answering}

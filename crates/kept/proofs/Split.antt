@@ -10,8 +10,8 @@ use mathlib.Core.Logic.{inl, inr}
 use lib.ListN.{length, get_or}
 use lib.Dec.{T, eqb, eqb→eq, ltb}
 use borrow.Author.Tests.{ne_eqb, eq-eqb}
-use Rattle.rules.specs.declared.Answer.{Answer}
-use Rattle.rules.specs.declared.Answer.TheVariants.{Done, Refused}
+use Rattle.rules.specs.Answer.{Answer}
+use Rattle.rules.specs.Answer.{Done, Refused}
 use Rattle.rules.specs.declared.Refusal.TheVariants.{TopologyNotFound, TopologyMalformed, TopologyConflict}
 use Rattle.rules.specs.declared.Edit.TheVariants.{FaceSplit}
 use Rattle.rules.specs.Table.{first_row, has}

@@ -8,7 +8,7 @@ use mathlib.Core.List.{List, []}
 use lib.ListN.{length, get_or}
 use lib.Dec.{T, leb→le}
 use Rattle.rules.specs.declared.Position.{Position}
-use Rattle.rules.specs.declared.Answer.{Answer}
+use Rattle.rules.specs.Answer.{Answer}
 use Rattle.rules.specs.declared.Edit.TheVariants.{FaceInsert, FacePoke, FaceSplit}
 use Rattle.rules.specs.Table.{Table, cell, there, has, after, free_row}
 use Rattle.rules.specs.Mesh.{Mesh, Room, ring_limit, next, previous, face, leading, key_at, find_key, find_vertex, find_face, face_kind, next_key}

@@ -3,7 +3,7 @@ use Prim.Native.Nat.{ℕ, ◌+◌, ◌≤◌}
 use native.Mathlib.Omega.{arith}
 use mathlib.Core.Path.{◌≡◌, refl}
 use mathlib.Core.List.{List}
-use Rattle.rules.specs.declared.Answer.{Answer}
+use Rattle.rules.specs.Answer.{Answer}
 use Rattle.rules.specs.declared.Edit.{Edit}
 use Rattle.rules.specs.Mesh.{Mesh, vertex_kind, face_kind, next_key}
 use Rattle.rules.specs.Step.{Step, step}

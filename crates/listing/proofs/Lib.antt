@@ -1,3 +1,1 @@
-pub mod Sorting
-pub mod Comparing
 pub mod Lining

@@ -7,7 +7,7 @@ use Rattle.rules.specs.declared.Position.{Position}
 use Rattle.rules.specs.declared.Move.{Move}
 use Rattle.rules.specs.declared.Edit.{Edit}
 use Rattle.rules.specs.declared.Edit.TheVariants.{VertexInsert, FaceInsert, FaceRemove, FaceSplit, FacePoke, FaceBridge, FaceExtrude, ArcBridge, ArcExtrude}
-use Rattle.rules.specs.declared.Answer.TheVariants.{Key, Arc, Done}
+use Rattle.rules.specs.Answer.{Key, Arc, Done}
 use Rattle.rules.specs.Table.{Table, there, free_row, up_to, after}
 use Rattle.rules.specs.Mesh.{Mesh, source, dest, face, leading, opposite, mark, key_at, key_limit, find_arc, find_vertex, find_face, vertex_kind, edge_kind, face_kind, next_key}
 use Rattle.rules.specs.Link.{ring, ring_vertices, turn, free_vertex, new_vertex, new_arc, new_edge}

@@ -7,14 +7,14 @@ use mathlib.Core.List.{List, [], ◌∷◌, ◌++◌}
 use lib.ListN.{length, take, drop, replicate, length-append, length-take, length-drop}
 use Prim.Native.Nat.{ℕ, ◌-◌, ◌≤◌}
 use native.Mathlib.Omega.{arith}
-use Rattle.rules.specs.declared.Answer.{Answer}
+use Rattle.rules.specs.Answer.{Answer}
 use Rattle.rules.specs.declared.Edit.{Edit}
 use Rattle.rules.specs.Mesh.{Mesh, Room, room}
 use Rattle.rules.specs.Step.{Step, step, stops, accepted}
 use Rattle.rules.specs.Call.{zeroed, outcome, room_enough, given, checks, moves_finite, room_for, need, work, worked, decided, ready, called}
 use Rattle.rules.specs.Sound.{sound}
 use Rattle.rules.specs.Point.{zero_float}
-use Rattle.rules.specs.declared.Answer.TheVariants.{Done, Refused}
+use Rattle.rules.specs.Answer.{Done, Refused}
 use Rattle.rules.specs.declared.Refusal.TheVariants.{Tables, Argument, NoRoom}
 use Rattle.rules.specs.declared.Call.{Call}
 use Rattle.rules.specs.declared.Edit.TheVariants.{FaceInsert}

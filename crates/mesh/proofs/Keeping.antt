@@ -5,8 +5,8 @@ use mathlib.Core.Bool.{Bool, true, false, not, cond, false≢true}
 use mathlib.Core.List.{List}
 use Prim.Native.Nat.{ℕ}
 use lib.Dec.{T}
-use Rattle.rules.specs.declared.Answer.{Answer}
-use Rattle.rules.specs.declared.Answer.TheVariants.{Done, Refused}
+use Rattle.rules.specs.Answer.{Answer}
+use Rattle.rules.specs.Answer.{Done, Refused}
 use Rattle.rules.specs.declared.Refusal.TheVariants.{Argument, NoRoom}
 use Rattle.rules.specs.declared.Edit.{Edit}
 use Rattle.rules.specs.declared.Edit.TheVariants.{VertexInsert, FaceInsert, FaceRemove, FaceSplit, FacePoke, FaceBridge, FaceExtrude, ArcBridge, ArcExtrude}
@@ -22,8 +22,10 @@ use Rattle.kept.proofs.Searching.{searching-like}
 use Rattle.kept.proofs.NeedSuffices.{need-suffices}
 use Rattle.kept.proofs.Vertex.{vertex-insert-keeps}
 use Rattle.kept.proofs.Remove.{face-remove-keeps}
+use Rattle.order.specs.declared.settle.Way.{Way}
+use Rattle.order.specs.declared.settle.Way.TheVariants.{Keeps, Near, Full}
 use Rattle.order.specs.Transaction as T
-use Rattle.order.specs.Transaction.{left, before_work, way_of, is_keeps}
+use Rattle.order.specs.Transaction.{left, before_work, way_of}
 use Rattle.order.proofs.Settling.{over-accepted, worked-done}
 use Rattle.mesh.proofs.Calling.{performed}
 
@@ -51,21 +53,30 @@ module _ (m : Mesh) (e : Edit) (keys : List ℕ) (k : ThreeCounters m) (s : soun
   pub by-rules : work_by searching m e keys ≡ work m e keys
   by-rules = (need-suffices m e keys k behind.was-sound behind.numbers-given behind.checks-passed behind.moves-finite behind.need-met).never-out searching searching-like
 
+keeps : Way → Bool
+keeps Keeps = true
+keeps Near = false
+keeps Full = false
+
+near-not : Near ≡ Keeps → ⊥
+unfolding keeps
+near-not q = false≢true (ap keeps q)
+
 -- what the work answers and leaves
-keeping : (m : Mesh) (e : Edit) (keys : List ℕ) → ThreeCounters m → Behind m e keys → is_keeps (way_of e) ≡ true → (accepted (work m e keys).answer ≡ true) × T (sound (work m e keys).tables)
-unfolding way_of is_keeps work remove_work accepted
+keeping : (m : Mesh) (e : Edit) (keys : List ℕ) → ThreeCounters m → Behind m e keys → way_of e ≡ Keeps → (accepted (work m e keys).answer ≡ true) × T (sound (work m e keys).tables)
+unfolding way_of work remove_work accepted
 keeping m (VertexInsert p) keys k b q = (refl, vertex-insert-keeps m p keys k b)
-keeping m (FaceInsert mark) keys k b q = absurd (false≢true q)
+keeping m (FaceInsert mark) keys k b q = absurd (near-not q)
 keeping m (FaceRemove f) keys k b q = (refl, face-remove-keeps m f keys b)
-keeping m (FaceSplit f s d) keys k b q = absurd (false≢true q)
-keeping m (FacePoke f p) keys k b q = absurd (false≢true q)
-keeping m (FaceBridge f g) keys k b q = absurd (false≢true q)
-keeping m (FaceExtrude f move) keys k b q = absurd (false≢true q)
-keeping m (ArcBridge x y z w) keys k b q = absurd (false≢true q)
-keeping m (ArcExtrude s d move) keys k b q = absurd (false≢true q)
+keeping m (FaceSplit f s d) keys k b q = absurd (near-not q)
+keeping m (FacePoke f p) keys k b q = absurd (near-not q)
+keeping m (FaceBridge f g) keys k b q = absurd (near-not q)
+keeping m (FaceExtrude f move) keys k b q = absurd (near-not q)
+keeping m (ArcBridge x y z w) keys k b q = absurd (near-not q)
+keeping m (ArcExtrude s d move) keys k b q = absurd (near-not q)
 
 -- so the work is what is decided: t is what it left
-pub in_place_lem : (m : Mesh) (e : Edit) (keys : List ℕ) (t : Step) → ThreeCounters m → sound m ≡ true → accepted (before_work m e keys) ≡ true → is_keeps (way_of e) ≡ true → t ≡ work_by searching m e keys → left t.answer t.tables ≡ T.over m (decided m e keys)
+pub in_place_lem : (m : Mesh) (e : Edit) (keys : List ℕ) (t : Step) → ThreeCounters m → sound m ≡ true → accepted (before_work m e keys) ≡ true → way_of e ≡ Keeps → t ≡ work_by searching m e keys → left t.answer t.tables ≡ T.over m (decided m e keys)
 in_place_lem m e keys t k s a q et =
     let w = work m e keys in
     let h = keeping m e keys k (behind m e keys k s a) q in

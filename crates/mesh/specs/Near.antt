@@ -1,5 +1,5 @@
 -- An edit that is about to begin, the room for it, and the arcs near it, listed.
-use Rattle.std.specs.Prelude.{ℕ, ◌≤◌, ◌≡◌, Bool, true, List, T, length, take}
+use Rattle.std.specs.Prelude.{ℕ, ◌≤◌, ◌≡◌, Bool, true, List, T, length}
 use Rattle.rules.specs.declared.Edit.{Edit}
 use Rattle.rules.specs.Table.{has}
 use Rattle.rules.specs.Mesh.{Mesh, Room}
@@ -9,7 +9,8 @@ use Rattle.kept.specs.Frame.{ThreeCounters}
 use Rattle.kept.specs.Local.{among}
 use Rattle.pairs.specs.Near.{is_marked}
 use Rattle.nearby.specs.Rows.{Listed}
-use Rattle.order.specs.Transaction.{before_work, way_of, is_near}
+use Rattle.order.specs.declared.settle.Way.TheVariants.{Near}
+use Rattle.order.specs.Transaction.{before_work, way_of}
 
 -- the mesh is sound, and nothing before the work refuses the edit
 pub record Begun (m : Mesh) (e : Edit) (keys : List ℕ) : Type 0 where
@@ -25,10 +26,9 @@ pub record Fits (m r : Room) : Type 0 where
   pub edges : length m.edges ≤ length r.edges
   pub faces : length m.faces ≤ length r.faces
 
--- of n links all arcs stand in the list that leave or reach a vertex with a mark, and each vertex of the edit has one; where there are too many to
--- list, or the rings near the edit do not tell, it says nothing
-pub record NearListed (m : Mesh) (e : Edit) (keys : List ℕ) (list : List ℕ) (n : ℕ) : Type 0 where
+-- in the list of links stand all arcs that leave or reach a vertex with a mark, and each vertex of the edit has one; the rings near the edit tell
+pub record NearListed (m : Mesh) (e : Edit) (keys : List ℕ) (list : List ℕ) : Type 0 where
   pub seen : List Bool
-  pub near : n ≤ 2048 → is_near (way_of e) ≡ true
-  pub marked : n ≤ 2048 → (v : ℕ) → T (has (among m e keys) v) → is_marked seen v ≡ true
-  pub listed : n ≤ 2048 → Listed m.arcs m.edges seen (take n list)
+  pub near : way_of e ≡ Near
+  pub marked : (v : ℕ) → T (has (among m e keys) v) → is_marked seen v ≡ true
+  pub listed : Listed m.arcs m.edges seen list

@@ -2,166 +2,125 @@
 // moved coordinates; 7; the Rust's refusals in mid-edit; 8", and "Working room ends all zero, accepted or not; answer 1 alone leaves it
 // untouched."
 
-ghost use Rattle.std.specs.Prelude.{◌≡◌, List, length, Float, true, ℕ, ◌≤◌};
+ghost use Rattle.std.specs.Prelude.{◌≡◌, ◌≤◌, length, take, true, ℕ, IfSome, option_copied};
 ghost use Rattle.rules.specs.declared.Edit.TheVariants.{FaceInsert};
+ghost use Rattle.rules.specs.Lent.{mesh_in, mesh_of, room_of, tables_of, answered, SameMesh, SameRoom};
 ghost use Rattle.rules.specs.Sound.{sound};
+ghost use Rattle.rules.specs.Mesh.{room};
 ghost use Rattle.rules.specs.Call.{work, worked, decided, called, outcome};
 ghost use Rattle.order.specs.Transaction.{left, over, SameSize};
 ghost use Rattle.mesh.specs.Near.{Fits, NearListed, Begun};
-ghost use Rattle.rules.specs.Mesh.{mesh, room};
 
 use nearby::rows;
 use nearby::rows::LISTED;
+use order::settle::Way;
 use order::{decide, rooms, settle};
 use pairs::MARKS;
-use rules::{Answer, ArcRow, Call, EdgeRow, Edit, FaceRow, PositionRow, Refusal, VertexRow};
-use tables::answers;
+use rules::{
+    ArcRow, Call, EdgeRow, Edit, FaceRow, MeshMut, MeshRef, PositionRow, Refusal, RoomMut, Told,
+    VertexRow,
+};
 
-// The arcs near an edit, listed: how many links, or too many where the rings near it do not tell. A face insert has at most 64 keys.
-fn list_near(
-    list: &mut [u32; LISTED],
-    vertices: &[VertexRow],
-    arcs: &[ArcRow],
-    edges: &[EdgeRow],
-    faces: &[FaceRow],
-    edit: Edit,
-    keys: &[u32],
-) -> usize
+// The arcs near an edit, listed: how many links, or none where there are too many or the rings near it do not tell. A face insert has at most 64
+// keys.
+fn list_near(list: &mut [u32; LISTED], mesh: MeshRef, edit: Edit, keys: &[u32]) -> Option<usize>
     requires { (mark : ℕ) → edit ≡ FaceInsert mark → length keys.now ≤ 64 }
-    ensures { (p : List (List Float)) (k : List ℕ) →
-        NearListed (mesh vertices.now p arcs.now edges.now faces.now k) edit keys.now list.new result }
+    ensures { IfSome result (λ n. (n ≤ 2048) × NearListed (mesh_in mesh.entry) edit keys.now (take n list.new)) }
 {
-    if !settle::is_near(settle::way_of(edit)) {
-        return rows::TOO_MANY;
+    if settle::way_of(edit) != Way::Near {
+        return None;
     }
     let mut seen = [false; MARKS];
-    nearby::vertices::mark_edit(&mut seen, vertices, arcs, faces, edit, keys);
-    rows::list_rows(list, arcs, edges, &seen)
+    nearby::vertices::mark_edit(&mut seen, mesh, edit, keys);
+    rows::list_rows(list, mesh.arcs, mesh.edges, &seen)
 }
 
-// The edit on a copy of the mesh in room that is as long, near which n arcs are listed. It is judged there, and copied over the mesh only where it is
-// accepted.
+// The edit on a copy of the mesh in room that is as long, where the arcs near it are listed or none are. It is judged there, and copied over the
+// mesh only where it is accepted.
 fn work_listed(
-    vertices: &mut [VertexRow],
-    positions: &mut [PositionRow],
-    arcs: &mut [ArcRow],
-    edges: &mut [EdgeRow],
-    faces: &mut [FaceRow],
-    counters: &mut [u32; 3],
-    v: &mut [VertexRow],
-    p: &mut [PositionRow],
-    a: &mut [ArcRow],
-    e: &mut [EdgeRow],
-    f: &mut [FaceRow],
-    list: &[u32; LISTED],
-    n: usize,
+    mesh: &mut MeshMut,
+    room: &mut RoomMut,
+    near: Option<&[u32]>,
     edit: Edit,
     keys: &[u32],
-) -> Answer
-    requires begun { Begun (mesh vertices.old positions.old arcs.old edges.old faces.old counters.old) edit keys.now }
-    requires same_size { SameSize (room vertices.old positions.old arcs.old edges.old faces.old) (room v.old p.old a.old e.old f.old) }
-    requires near_listed { NearListed (mesh vertices.old positions.old arcs.old edges.old faces.old counters.old) edit keys.now list.now n }
-    ensures { left result (mesh vertices.new positions.new arcs.new edges.new faces.new counters.new)
-        ≡ over (mesh vertices.old positions.old arcs.old edges.old faces.old counters.old)
-        (worked (work (mesh vertices.old positions.old arcs.old edges.old faces.old counters.old) edit keys.now)) }
+) -> Result<Told, Refusal>
+    requires begun { Begun (mesh_of mesh.old) edit keys.now }
+    requires same_size { SameSize (tables_of (mesh_of mesh.old)) (room_of room.old) }
+    requires near_listed { IfSome (option_copied near) (NearListed (mesh_of mesh.old) edit keys.now) }
+    ensures left { left (answered result) (mesh_of mesh.new) ≡ over (mesh_of mesh.old) (worked (work (mesh_of mesh.old) edit keys.now)) }
+    ensures same { SameMesh mesh.old mesh.new }
+    ensures room { SameRoom room.old room.new }
 {
-    rows::known_rows(arcs);
-    rooms::copy_in(v, p, a, e, f, vertices, positions, arcs, edges, faces);
-    let mut k = *counters;
-    let told = choice::work(v, p, a, e, f, &mut k, edit, keys);
-    rows::known_rows(a);
-    let answer = settle::judged(v, p, a, e, f, &k, list, n, counters[2], told);
-    if !answers::accepted(answer) {
-        return answer;
-    }
-    rooms::copy_over(
-        vertices, positions, arcs, edges, faces, v, p, a, e, f, list, n,
-    );
-    *counters = k;
-    answer
+    rows::known_rows(mesh.view().arcs);
+    rooms::copy_in(room, mesh.view());
+    let mut counters = *mesh.counters;
+    let mut copy = MeshMut {
+        vertices: &mut *room.vertices,
+        positions: &mut *room.positions,
+        arcs: &mut *room.arcs,
+        edges: &mut *room.edges,
+        faces: &mut *room.faces,
+        counters: &mut counters,
+    };
+    let told = choice::work(&mut copy, edit, keys);
+    rows::known_rows(copy.view().arcs);
+    let answer = settle::judged(copy.view(), near, mesh.counters[2], told)?;
+    rooms::copy_over(mesh, room.view(), near);
+    *mesh.counters = counters;
+    Ok(answer)
 }
 
 // The edit in room that is as long as the mesh, with the arcs near it listed first.
 fn work_in_room(
-    vertices: &mut [VertexRow],
-    positions: &mut [PositionRow],
-    arcs: &mut [ArcRow],
-    edges: &mut [EdgeRow],
-    faces: &mut [FaceRow],
-    counters: &mut [u32; 3],
-    v: &mut [VertexRow],
-    p: &mut [PositionRow],
-    a: &mut [ArcRow],
-    e: &mut [EdgeRow],
-    f: &mut [FaceRow],
+    mesh: &mut MeshMut,
+    room: &mut RoomMut,
     edit: Edit,
     keys: &[u32],
-) -> Answer
-    requires begun { Begun (mesh vertices.old positions.old arcs.old edges.old faces.old counters.old) edit keys.now }
-    requires same_size { SameSize (room vertices.old positions.old arcs.old edges.old faces.old) (room v.old p.old a.old e.old f.old) }
-    ensures { left result (mesh vertices.new positions.new arcs.new edges.new faces.new counters.new)
-        ≡ over (mesh vertices.old positions.old arcs.old edges.old faces.old counters.old)
-        (worked (work (mesh vertices.old positions.old arcs.old edges.old faces.old counters.old) edit keys.now)) }
+) -> Result<Told, Refusal>
+    requires begun { Begun (mesh_of mesh.old) edit keys.now }
+    requires same_size { SameSize (tables_of (mesh_of mesh.old)) (room_of room.old) }
+    ensures left { left (answered result) (mesh_of mesh.new) ≡ over (mesh_of mesh.old) (worked (work (mesh_of mesh.old) edit keys.now)) }
+    ensures same { SameMesh mesh.old mesh.new }
+    ensures room { SameRoom room.old room.new }
 {
     let mut list = [0u32; LISTED];
-    let n = list_near(&mut list, vertices, arcs, edges, faces, edit, keys);
-    work_listed(
-        vertices, positions, arcs, edges, faces, counters, v, p, a, e, f, &list, n, edit, keys,
-    )
+    let near = match list_near(&mut list, mesh.view(), edit, keys) {
+        Some(n) => Some(&list[..n]),
+        None => None,
+    };
+    work_listed(mesh, room, near, edit, keys)
 }
 
 // Says only that there are three.
-fn known_three(counters: [u32; 3])
-    ensures { length counters ≡ 3 }
+fn known_three(counters: &[u32; 3])
+    ensures { length counters.now ≡ 3 }
 {}
 
 // The edit on a sound mesh: what is decided before it, then the work. Where the work may still be refused, it is done in room.
 fn perform(
-    vertices: &mut [VertexRow],
-    positions: &mut [PositionRow],
-    arcs: &mut [ArcRow],
-    edges: &mut [EdgeRow],
-    faces: &mut [FaceRow],
-    counters: &mut [u32; 3],
-    v: &mut [VertexRow],
-    p: &mut [PositionRow],
-    a: &mut [ArcRow],
-    e: &mut [EdgeRow],
-    f: &mut [FaceRow],
+    mesh: &mut MeshMut,
+    room: &mut RoomMut,
     edit: Edit,
     keys: &[u32],
-) -> Answer
-    requires counters_value { sound (mesh vertices.old positions.old arcs.old edges.old faces.old counters.old) ≡ true }
-    requires same_size { SameSize (room vertices.old positions.old arcs.old edges.old faces.old) (room v.old p.old a.old e.old f.old) }
-    ensures { left result (mesh vertices.new positions.new arcs.new edges.new faces.new counters.new)
-        ≡ over (mesh vertices.old positions.old arcs.old edges.old faces.old counters.old)
-        (decided (mesh vertices.old positions.old arcs.old edges.old faces.old counters.old) edit keys.now) }
+) -> Result<Told, Refusal>
+    requires whole { sound (mesh_of mesh.old) ≡ true }
+    requires same_size { SameSize (tables_of (mesh_of mesh.old)) (room_of room.old) }
+    ensures left { left (answered result) (mesh_of mesh.new) ≡ over (mesh_of mesh.old) (decided (mesh_of mesh.old) edit keys.now) }
+    ensures same { SameMesh mesh.old mesh.new }
+    ensures room { SameRoom room.old room.new }
 {
-    known_three(*counters);
-    let first = decide::decide(
-        vertices, positions, arcs, edges, faces, counters, edit, keys,
-    );
-    if !answers::accepted(first) {
-        return first;
+    known_three(mesh.view().counters);
+    decide::decide(mesh.view(), edit, keys)?;
+    if settle::way_of(edit) == Way::Keeps {
+        return choice::work(mesh, edit, keys);
     }
-    if settle::is_keeps(settle::way_of(edit)) {
-        return choice::work(
-            vertices, positions, arcs, edges, faces, counters, edit, keys,
-        );
-    }
-    work_in_room(
-        vertices, positions, arcs, edges, faces, counters, v, p, a, e, f, edit, keys,
-    )
+    work_in_room(mesh, room, edit, keys)
 }
 
-// The edit on a sound mesh with room that may be larger than it: in the parts of it that are as long as the mesh.
+// The edit on a sound mesh with room, table by table, that may be larger than it: in the parts of it that are as long as the mesh.
+// Kept: the room by its tables: tried, and no rule covers a part of a field's slice that is lent while another field is used.
 fn perform_in_parts(
-    vertices: &mut [VertexRow],
-    positions: &mut [PositionRow],
-    arcs: &mut [ArcRow],
-    edges: &mut [EdgeRow],
-    faces: &mut [FaceRow],
-    counters: &mut [u32; 3],
+    mesh: &mut MeshMut,
     v: &mut [VertexRow],
     p: &mut [PositionRow],
     a: &mut [ArcRow],
@@ -169,69 +128,54 @@ fn perform_in_parts(
     f: &mut [FaceRow],
     edit: Edit,
     keys: &[u32],
-) -> Answer
-    requires counters_value { sound (mesh vertices.old positions.old arcs.old edges.old faces.old counters.old) ≡ true }
-    requires fits { Fits (room vertices.old positions.old arcs.old edges.old faces.old) (room v.old p.old a.old e.old f.old) }
-    ensures { left result (mesh vertices.new positions.new arcs.new edges.new faces.new counters.new)
-        ≡ over (mesh vertices.old positions.old arcs.old edges.old faces.old counters.old)
-        (decided (mesh vertices.old positions.old arcs.old edges.old faces.old counters.old) edit keys.now) }
+) -> Result<Told, Refusal>
+    requires whole { sound (mesh_of mesh.old) ≡ true }
+    requires fits { Fits (tables_of (mesh_of mesh.old)) (room v.old p.old a.old e.old f.old) }
+    ensures left { left (answered result) (mesh_of mesh.new) ≡ over (mesh_of mesh.old) (decided (mesh_of mesh.old) edit keys.now) }
+    ensures same { SameMesh mesh.old mesh.new }
 {
-    let nv = vertices.len();
-    let np = positions.len();
-    let na = arcs.len();
-    let ne = edges.len();
-    let nf = faces.len();
-    perform(
-        vertices,
-        positions,
-        arcs,
-        edges,
-        faces,
-        counters,
-        &mut v[0..nv],
-        &mut p[0..np],
-        &mut a[0..na],
-        &mut e[0..ne],
-        &mut f[0..nf],
-        edit,
-        keys,
-    )
+    let nv = mesh.vertices.len();
+    let np = mesh.positions.len();
+    let na = mesh.arcs.len();
+    let ne = mesh.edges.len();
+    let nf = mesh.faces.len();
+    let mut part = RoomMut {
+        vertices: &mut v[..nv],
+        positions: &mut p[..np],
+        arcs: &mut a[..na],
+        edges: &mut e[..ne],
+        faces: &mut f[..nf],
+    };
+    perform(mesh, &mut part, edit, keys)
 }
 
 // The call: what it answers and leaves is `called`, for every lent table, counter, room and argument.
 pub fn change(
-    vertices: &mut [VertexRow],
-    positions: &mut [PositionRow],
-    arcs: &mut [ArcRow],
-    edges: &mut [EdgeRow],
-    faces: &mut [FaceRow],
-    counters: &mut [u32; 3],
-    v1: &mut [VertexRow],
-    p1: &mut [PositionRow],
-    a1: &mut [ArcRow],
-    e1: &mut [EdgeRow],
-    f1: &mut [FaceRow],
-    v2: &mut [VertexRow],
-    p2: &mut [PositionRow],
-    a2: &mut [ArcRow],
-    e2: &mut [EdgeRow],
-    f2: &mut [FaceRow],
+    mesh: &mut MeshMut,
+    room1: &mut RoomMut,
+    room2: &mut RoomMut,
     call: Call,
     keys: &[u32],
-) -> Answer
-    ensures { outcome result (mesh vertices.new positions.new arcs.new edges.new faces.new counters.new) (room v1.new p1.new a1.new e1.new f1.new) (room v2.new p2.new a2.new e2.new f2.new)
-        ≡ called (mesh vertices.old positions.old arcs.old edges.old faces.old counters.old) (room v1.old p1.old a1.old e1.old f1.old) (room v2.old p2.old a2.old e2.old f2.old) call
-        keys.now }
+) -> Result<Told, Refusal>
+    ensures outcome { outcome (answered result) (mesh_of mesh.new) (room_of room1.new) (room_of room2.new)
+        ≡ called (mesh_of mesh.old) (room_of room1.old) (room_of room2.old) call keys.now }
+    ensures same { SameMesh mesh.old mesh.new }
+    ensures room1 { SameRoom room1.old room1.new }
+    ensures room2 { SameRoom room2.old room2.new }
 {
-    if !decide::is_ready(
-        vertices, positions, arcs, edges, faces, counters, v1, p1, a1, e1, f1, v2, p2, a2, e2, f2,
-    ) {
-        return Answer::Refused(Refusal::Tables);
+    if !decide::is_ready(mesh.view(), room1.view(), room2.view()) {
+        return Err(Refusal::Tables);
     }
-    let edit = call.edit;
-    let answer = perform_in_parts(
-        vertices, positions, arcs, edges, faces, counters, v1, p1, a1, e1, f1, edit, keys,
+    let told = perform_in_parts(
+        mesh,
+        room1.vertices,
+        room1.positions,
+        room1.arcs,
+        room1.edges,
+        room1.faces,
+        call.edit,
+        keys,
     );
-    rooms::clear(v1, p1, a1, e1, f1, v2, p2, a2, e2, f2);
-    answer
+    rooms::clear(room1, room2);
+    told
 }

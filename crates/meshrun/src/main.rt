@@ -3,38 +3,31 @@
 
 #![tactic(auto)]
 
-use runs::ANSWERS;
+use rules::{MeshMut, MeshRef};
+use runs::{ANSWERS, Tables};
 use std::io;
 
 fn main(rt: HostRuntime) -> io::Result<()> {
     let mut reader = rt.stdin();
     let mut writer = rt.stdout();
-    let mut vertices = [[0u32; 2]; 64];
-    let mut positions = [[0.0f64; 3]; 64];
-    let mut arcs = [[0u32; 6]; 256];
-    let mut edges = [[0u32; 3]; 128];
-    let mut faces = [[0u32; 3]; 64];
-    let mut counters = [0u32; 3];
     let mut out = [0u8; ANSWERS];
-    input::run_script(
-        &mut reader,
-        &mut writer,
-        &mut vertices,
-        &mut positions,
-        &mut arcs,
-        &mut edges,
-        &mut faces,
-        &mut counters,
-        &mut out,
-    )?;
-    input::write_end(
-        &mut writer,
-        &vertices,
-        &positions,
-        &arcs,
-        &edges,
-        &faces,
-        &counters,
-        &mut out,
-    )
+    let mut tables = Tables::empty();
+    let mut mesh = MeshMut {
+        vertices: &mut tables.vertices,
+        positions: &mut tables.positions,
+        arcs: &mut tables.arcs,
+        edges: &mut tables.edges,
+        faces: &mut tables.faces,
+        counters: &mut tables.counters,
+    };
+    input::run_script(&mut reader, &mut writer, &mut mesh, &mut out)?;
+    let mesh = MeshRef {
+        vertices: &tables.vertices,
+        positions: &tables.positions,
+        arcs: &tables.arcs,
+        edges: &tables.edges,
+        faces: &tables.faces,
+        counters: &tables.counters,
+    };
+    input::write_end(&mut writer, mesh, &mut out)
 }

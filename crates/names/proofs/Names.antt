@@ -12,7 +12,7 @@ use lib.Dec.{T, eqb, ltb, eqb→eq, ltb→lt}
 use borrow.Author.Tests.{eq-eqb, ne_eqb, lt-ltb, le-ltb}
 use Rattle.rules.specs.Table.{all_below, or_else}
 use Rattle.rules.proofs.Sums.{all-at, same_test, or_cases, or_l, or_r}
-use Rattle.proved.proofs.Rows.{T_true, same-T, differ-T, all_from}
+use Rattle.proved.proofs.Rows.{T_true, true-T, same-T, differ-T, all_from}
 use Rattle.proved.proofs.Rows as rows
 use Rattle.names.specs.Names.{alone, differ}
 use Rattle.names.specs.Rising.{last_before, rises}
@@ -74,6 +74,31 @@ module _ (names : List ℕ) (n : ℕ) where
       go : Dec (row ≡ 0) → (cond (eqb row 0) 0 (cond (ltb 8192 row) 0 (get_or names (row - 1) 0)) ≡ 0 → ⊥) → (1 ≤ row) × (cond (eqb row 0) 0 (cond (ltb 8192 row) 0 (get_or names (row - 1) 0)) ≡ get_or names (row - 1) 0)
       go (yes z) v = absurd (v (rw (eq-eqb row 0 z)))
       go (no z) v = (omega arith, rw (ne_eqb row 0 z, le-ltb 8192 row l))
+
+  -- the ways in which a row is single: it has no name, or the name finds no row, the row itself, one past the first n, or one with another name
+  module _ (slots : List ℕ) (i : ℕ) where
+    pub single-none : get_or names i 0 ≡ 0 → true ≡ single slots names n i
+    unfolding single
+    single-none z = rw (eq-eqb _ _ z)
+
+    pub single-lost : (get_or names i 0 ≡ 0 → ⊥) → look_in slots names (get_or names i 0) ≡ 0 → true ≡ single slots names n i
+    unfolding single name_of
+    single-lost u z = rw (ne_eqb _ _ u, z, ne_eqb 0 (i + 1) (λ e. omega arith), le-ltb n 0 (omega arith), ne_eqb 0 (get_or names i 0) (λ e. u (sym e)))
+
+    module _ (row : ℕ) (found : look_in slots names (get_or names i 0) ≡ row + 1) where
+      pub single-itself : row ≡ i → true ≡ single slots names n i
+      unfolding single
+      single-itself e = sym (T_true _ (or_r (eqb (get_or names i 0) 0) _ (or_l (eqb (look_in slots names (get_or names i 0)) (i + 1)) _ (same-T _ _ (omega (arith, found, e))))))
+
+      pub single-past : n ≤ row → true ≡ single slots names n i
+      unfolding single
+      single-past l = sym (T_true _ (or_r (eqb (get_or names i 0) 0) _ (or_r (eqb (look_in slots names (get_or names i 0)) (i + 1)) _ (or_l (ltb n (look_in slots names (get_or names i 0))) _ (true-T (lt-ltb _ _ (omega (arith, found, l))))))))
+
+      pub single-other : (get_or names i 0 ≡ 0 → ⊥) → (row ≡ i → ⊥) → row < n → n ≤ 8192 → not (eqb (get_or names row 0) (get_or names i 0)) ≡ single slots names n i
+      unfolding single name_of
+      single-other u d l few =
+          let q : row + 1 - 1 ≡ row = omega arith in
+          rw (ne_eqb _ _ u, found, ne_eqb (row + 1) (i + 1) (λ e. d (omega arith)), le-ltb n (row + 1) (omega arith), ne_eqb (row + 1) 0 (λ e. omega arith), le-ltb 8192 (row + 1) (omega arith), q)
 
   differ-single : (slots : List ℕ) → n ≤ 8192 → Differ names n → (i : ℕ) → i < n → T (single slots names n i)
   unfolding single

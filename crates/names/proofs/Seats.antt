@@ -11,9 +11,10 @@ use lib.Dec.{eqb→eq}
 use borrow.Author.Tests.{ne_eqb, le-ltb}
 use Rattle.rules.proofs.Sums.{all-at, or_cases, or_l, or_r}
 use Rattle.proved.proofs.Rows.{T_true, true-T, same-T, all_from}
-use Rattle.names.specs.Slots.{passed_by, slot_of, slot_after, name_of, probe, look_in, finds, Seat}
+use Rattle.std.specs.Prelude.{Some}
+use Rattle.names.specs.Slots.{passed_by, slot_of, slot_after, name_of, probe, look_in, finds, Seat, EndsAt}
 use Rattle.names.proofs.Loops.{Passed, one_more}
-use Rattle.names.proofs.Probing.{probe-none, probe-here, probe-on}
+use Rattle.names.proofs.Probing.{probe-none, probe-here, probe-on, probe-end}
 
 module _ (slots names : List ℕ) where
   -- a slot that is taken is not the free one
@@ -39,6 +40,27 @@ module _ (slots names : List ℕ) where
     pub reach-seat : slot < length slots → get_or slots slot 0 ≡ 0 → Seat slots names name slot
     reach-seat l z =
         (z, λ v n e. let o = get_or-set_same slots slot v 0 l in h slot v z ∙ probe-here (set slots slot v) names name slot left k more (λ q. n (sym o ∙ q)) (ap (name_of names) o ∙ e) ∙ o)
+
+  -- and so does the lookup in the slots as they are
+  abbrev pub Search : ℕ → ℕ → ℕ → Type 0
+  Search name left slot = (look_in slots names name ≡ probe slots names name left slot) × Reach name left slot
+
+  pub search-start : (name : ℕ) → Search name 128 (slot_of name)
+  unfolding look_in
+  search-start name = (refl, reach-start name)
+
+  pub search-end : (name left slot : ℕ) → left ≡ 0 → Search name left slot → look_in slots names name ≡ 0
+  search-end name left slot z h = h.0 ∙ probe-end slots names name slot left z
+
+  module _ (name left k slot : ℕ) (more : left ≡ suc k) (low : slot < 8192) (h : Search name left slot) where
+    pub search-on : (get_or slots slot 0 ≡ 0 → ⊥) → (name_of names (get_or slots slot 0) ≡ name → ⊥) → Search name k (slot_after slot)
+    search-on n d = (h.0 ∙ probe-on slots names name slot left k more n d, reach-on name left k slot more h.1 n d)
+
+    pub search-free : length slots ≡ 8192 → get_or slots slot 0 ≡ 0 → EndsAt slots names name (Some slot)
+    search-free l z = (low, (h.0 ∙ probe-none slots names name slot left k more z ∙ sym z, reach-seat name left k slot more h.1 (omega arith)))
+
+    pub search-met : (get_or slots slot 0 ≡ 0 → ⊥) → name_of names (get_or slots slot 0) ≡ name → EndsAt slots names name (Some slot)
+    search-met n e = (low, (h.0 ∙ probe-here slots names name slot left k more n e, λ z. absurd (n z)))
 
   -- ---- what was found is found
 

@@ -1,7 +1,7 @@
 -- Lookup of a name's row in slots, each of which has a row plus one, or 0: from the slot that the name gives to the first that has 0, at
 -- most 128 of them.
 -- All that a proof asks of it is that one name finds one row.
-use Rattle.std.specs.Prelude.{ℕ, zero, suc, ◌+◌, ◌-◌, ◌*◌, ◌/◌, ◌%◌, ◌<◌, ◌≡◌, Bool, not, cond, ◌||◌, List, get_or, set, eqb, ltb}
+use Rattle.std.specs.Prelude.{ℕ, zero, suc, ◌+◌, ◌-◌, ◌*◌, ◌/◌, ◌%◌, ◌<◌, ◌≡◌, Bool, not, cond, ◌||◌, List, get_or, set, eqb, ltb, Option, Some, None}
 
 unfoldable pub slot_of : ℕ → ℕ
 slot_of name = name * 3645161217 / 4194304 % 8192
@@ -44,6 +44,22 @@ DifferIn names n part =
 abbrev pub Seat : List ℕ → List ℕ → ℕ → ℕ → Type 0
 Seat slots names name s =
     (get_or slots s 0 ≡ 0) × ((v : ℕ) → (v ≡ 0 → ⊥) → name_of names v ≡ name → look_in (set slots s v) names name ≡ v)
+
+-- the link of a row that was found, 0 for none
+abbrev pub link_of : Option ℕ → ℕ
+link_of None = 0
+link_of (Some row) = row + 1
+
+-- the slot where the search for a name ends: the lookup finds what the slot has, and if the slot is free, the name finds a row put there
+abbrev pub EndsAt : List ℕ → List ℕ → ℕ → Option ℕ → Type 0
+EndsAt slots names name None = look_in slots names name ≡ 0
+EndsAt slots names name (Some slot) =
+    (slot < 8192) × ((look_in slots names name ≡ get_or slots slot 0) × (get_or slots slot 0 ≡ 0 → Seat slots names name slot))
+
+-- a free slot where a row with the name would be found, if one is given
+abbrev pub SeatIf : List ℕ → List ℕ → ℕ → Option ℕ → Type 0
+SeatIf slots names name None = Unit {0}
+SeatIf slots names name (Some slot) = (slot < 8192) × Seat slots names name slot
 
 -- row i has no name, or its name finds itself, or no row of the first n, or one with another name
 unfoldable pub single : List ℕ → List ℕ → ℕ → ℕ → Bool

@@ -7,15 +7,18 @@
 
 #![tactic(auto)]
 
-ghost use Rattle.std.specs.Prelude.{◌≡◌, true, false, not, ◌||◌, ◌+◌, ◌≤◌, ◌<◌, min, length, get_or, eqb, ltb};
+ghost use Rattle.std.specs.Prelude.{◌≡◌, true, false, not, ◌||◌, ◌+◌, ◌≤◌, ◌<◌, get_or, eqb, ltb};
 ghost use Rattle.rules.specs.Table.{all_below, or_else};
 ghost use Rattle.names.specs.Names.{alone, differ, pair_name};
 ghost use Rattle.names.specs.Rising.{rises};
-ghost use Rattle.names.specs.Slots.{slot_of, slot_after, part_of, passed_by, name_of, look_in, finds, DifferIn, Seat, single};
+ghost use Rattle.names.specs.Slots.{slot_of, slot_after, part_of, passed_by, name_of, link_of, look_in, EndsAt, SeatIf, finds, single};
+ghost use Rattle.names.specs.Verdicts.{Shows};
 
 // The most rows that a list of names has: as many as the largest table with keys.
+// Kept: fixed memory: a list has places for the largest table, on the stack, and n of them count; slots and rows are bounded by the same number.
 pub const ROWS: usize = 8192;
 
+// Kept: fixed memory: a slot is two bytes, a row plus one, or 0 where it is free; an option for each would take twice the room.
 const SLOTS: usize = 8192;
 
 // As many slots as are tried for a name.
@@ -27,10 +30,7 @@ const TRIES: usize = 128;
 pub fn pair_name(a: u32, b: u32) -> u32
     ensures { result ≡ pair_name a b }
 {
-    if a < b {
-        return a % 8192 * 8192 + b % 8192;
-    }
-    b % 8192 * 8192 + a % 8192
+    a.min(b) % 8192 * 8192 + a.max(b) % 8192
 }
 
 // ---- rising
@@ -39,35 +39,28 @@ pub fn pair_name(a: u32, b: u32) -> u32
 pub fn follows(last: u32, name: u32) -> bool
     ensures { result ≡ (eqb name 0 || ltb last name) }
 {
-    if name == 0 {
-        return true;
-    }
-    last < name
+    name == 0 || last < name
 }
 
 // The name, or the one before where it is 0.
 pub fn or_last(name: u32, last: u32) -> u32
     ensures { result ≡ or_else name last }
 {
-    if name == 0 {
-        return last;
-    }
-    name
+    if name == 0 { last } else { name }
 }
 
 // Whether the names rise.
+// Kept: the last name is carried from row to row, which `all` doesn't do.
 fn rising(names: &[u32; ROWS], n: usize) -> bool
     requires { n ≤ 8192 }
     ensures { result ≡ all_below (rises names.now) n }
 {
     let mut last = 0;
-    let mut i = 0;
-    while i < n {
+    for i in 0..n {
         if !follows(last, names[i]) {
             return false;
         }
         last = or_last(names[i], last);
-        i += 1;
     }
     true
 }
@@ -92,10 +85,7 @@ fn part_of(name: u32) -> usize
 fn passed_by(part: usize, name: u32) -> bool
     ensures { result ≡ passed_by part name }
 {
-    if name == 0 {
-        return true;
-    }
-    part_of(name) != part
+    name == 0 || part_of(name) != part
 }
 
 fn slot_after(slot: usize) -> usize
@@ -109,60 +99,49 @@ fn slot_after(slot: usize) -> usize
 fn name_of(names: &[u32; ROWS], row: u16) -> u32
     ensures { result ≡ name_of names.now row }
 {
-    if row == 0 {
-        return 0;
-    }
-    if row > 8192 {
+    if row == 0 || row > 8192 {
         return 0;
     }
     names[row as usize - 1]
 }
 
-// The row, plus one, that a name finds from its own slot on, or 0.
-fn look(slots: &[u16; SLOTS], names: &[u32; ROWS], name: u32) -> u16
-    ensures { result ≡ look_in slots.now names.now name }
+// The slot where the search for a name ends: the first from its own on that is free, or has a row with the name. It is none where all
+// that are tried have other names.
+fn end_of(slots: &[u16; SLOTS], names: &[u32; ROWS], name: u32) -> Option<usize>
+    ensures { EndsAt slots.now names.now name result }
 {
     let mut slot = slot_of(name);
-    let mut left = TRIES;
-    while left > 0 {
+    for _ in 0..TRIES {
         let row = slots[slot];
-        if row == 0 {
-            return 0;
-        }
-        if name_of(names, row) == name {
-            return row;
+        if row == 0 || name_of(names, row) == name {
+            return Some(slot);
         }
         slot = slot_after(slot);
-        left -= 1;
     }
-    0
+    None
 }
 
-// The first free slot from a name's own on: a row put there is found by that name. If a slot before it has a row with the name, or none of
-// those tried is free, there is none such, and it is SLOTS.
-fn seat(slots: &[u16], names: &[u32; ROWS], name: u32) -> usize
-    requires { length slots.now ≡ 8192 }
-    ensures { result < 8192 → Seat slots.now names.now name result }
+// The row that a name finds.
+fn look(slots: &[u16; SLOTS], names: &[u32; ROWS], name: u32) -> Option<usize>
+    ensures { link_of result ≡ look_in slots.now names.now name }
 {
-    let mut slot = slot_of(name);
-    let mut left = TRIES;
-    while left > 0 {
-        let row = slots[slot];
-        if row == 0 {
-            return slot;
-        }
-        if name_of(names, row) == name {
-            return SLOTS;
-        }
-        slot = slot_after(slot);
-        left -= 1;
-    }
-    SLOTS
+    let slot = end_of(slots, names, name)?;
+    let row = slots[slot] as usize;
+    row.checked_sub(1)
+}
+
+// A free slot where a row with the name would be found. There is none where another row has the name, or too many slots are taken.
+fn seat(slots: &[u16; SLOTS], names: &[u32; ROWS], name: u32) -> Option<usize>
+    ensures { SeatIf slots.now names.now name result }
+{
+    let slot = end_of(slots, names, name)?;
+    if slots[slot] == 0 { Some(slot) } else { None }
 }
 
 // Puts a row of the part, plus one, into a slot where its name finds it, if there is one. The rows before are still found.
-fn seated(slots: &mut [u16], names: &[u32; ROWS], i: usize, part: usize) -> bool
-    requires { (i < 8192) × (length slots.old ≡ 8192) }
+// Kept: each row writes a slot, so the loop stops at the first that has none; the library's `all` is for tests that write nothing.
+fn seated(slots: &mut [u16; SLOTS], names: &[u32; ROWS], i: usize, part: usize) -> bool
+    requires { i < 8192 }
     ensures { result ≡ true → all_below (finds slots.old names.now part) i ≡ true →
         all_below (finds slots.new names.now part) (i + 1) ≡ true }
 {
@@ -170,45 +149,42 @@ fn seated(slots: &mut [u16], names: &[u32; ROWS], i: usize, part: usize) -> bool
     if passed_by(part, name) {
         return true;
     }
-    let slot = seat(slots, names, name);
-    if slot >= SLOTS {
+    let Some(slot) = seat(slots, names, name) else {
         return false;
-    }
+    };
     slots[slot] = (i + 1) as u16;
     true
 }
 
 // Puts each row of a part into a slot: whether each of their names then finds its own row.
-fn all_seated(slots: &mut [u16], names: &[u32; ROWS], n: usize, part: usize) -> bool
-    requires { (n ≤ 8192) × (length slots.old ≡ 8192) }
+fn all_seated(slots: &mut [u16; SLOTS], names: &[u32; ROWS], n: usize, part: usize) -> bool
+    requires { n ≤ 8192 }
     ensures { result ≡ true → all_below (finds slots.new names.now part) n ≡ true }
 {
-    let mut row = 0;
-    while row < n {
+    for row in 0..n {
         if !seated(slots, names, row, part) {
             return false;
         }
-        row += 1;
     }
     true
 }
 
 // Whether a row's name finds no other row of the first n that has the same.
 fn single_at(slots: &[u16; SLOTS], names: &[u32; ROWS], n: usize, i: usize) -> bool
-    requires { i < 8192 }
+    requires { (n ≤ 8192) × (i < 8192) }
     ensures { result ≡ single slots.now names.now n i }
 {
-    if names[i] == 0 {
+    let name = names[i];
+    if name == 0 {
         return true;
     }
-    let row = look(slots, names, names[i]);
-    if row == (i + 1) as u16 {
+    let Some(row) = look(slots, names, name) else {
+        return true;
+    };
+    if row == i || row >= n {
         return true;
     }
-    if row as usize > n {
-        return true;
-    }
-    name_of(names, row) != names[i]
+    names[row] != name
 }
 
 // A name that finds another row with that name tells at once that names do not differ.
@@ -216,14 +192,7 @@ fn no_twin(slots: &[u16; SLOTS], names: &[u32; ROWS], n: usize) -> bool
     requires { n ≤ 8192 }
     ensures { result ≡ all_below (single slots.now names.now n) n }
 {
-    let mut i = 0;
-    while i < n {
-        if !single_at(slots, names, n, i) {
-            return false;
-        }
-        i += 1;
-    }
-    true
+    (0..n).all(|i| single_at(slots, names, n, i))
 }
 
 // ---- one by one
@@ -233,14 +202,7 @@ fn first_with(names: &[u32; ROWS], i: usize) -> bool
     requires { i < 8192 }
     ensures { result ≡ all_below (λ j. not (eqb (get_or names.now j 0) (get_or names.now i 0))) i }
 {
-    let mut j = 0;
-    while j < i {
-        if names[j] == names[i] {
-            return false;
-        }
-        j += 1;
-    }
-    true
+    !names[..i].contains(&names[i])
 }
 
 // Whether a row has no name, or no row before has the same.
@@ -248,10 +210,7 @@ fn alone_at(names: &[u32; ROWS], i: usize) -> bool
     requires { i < 8192 }
     ensures { result ≡ alone names.now i }
 {
-    if names[i] == 0 {
-        return true;
-    }
-    first_with(names, i)
+    names[i] == 0 || first_with(names, i)
 }
 
 // Whether names differ, each compared with those before it.
@@ -259,78 +218,57 @@ fn compared(names: &[u32; ROWS], n: usize) -> bool
     requires { n ≤ 8192 }
     ensures { result ≡ differ names.now n }
 {
-    let mut i = 0;
-    while i < n {
-        if !alone_at(names, i) {
-            return false;
-        }
-        i += 1;
-    }
-    true
+    (0..n).all(|i| alone_at(names, i))
 }
 
 // ---- differ
 
 // What the slots tell of a part: its names differ, a name stands twice, or neither.
-const APART: u32 = 1;
+#[derive(Clone, Copy, PartialEq, Eq)]
+enum Verdict {
+    Apart,
+    Twice,
+    Untold,
+}
 
-const TWICE: u32 = 2;
-
-fn told_of(names: &[u32; ROWS], n: usize, part: usize) -> u32
+fn told_of(names: &[u32; ROWS], n: usize, part: usize) -> Verdict
     requires { n ≤ 8192 }
-    ensures { (result ≡ 1 → DifferIn names.now n part) × (result ≡ 2 → false ≡ differ names.now n) }
+    ensures { Shows names.now n part result }
 {
     let mut slots = [0u16; SLOTS];
     if all_seated(&mut slots, names, n, part) {
-        return APART;
+        return Verdict::Apart;
     }
-    if !no_twin(&slots, names, n) {
-        return TWICE;
+    if no_twin(&slots, names, n) {
+        Verdict::Untold
+    } else {
+        Verdict::Twice
     }
-    0
 }
 
 // By the slots, where the names do not rise: part by part, and one by one where that does not tell.
+// Kept: the second part is gone through only where the first does not tell; as one expression of both, it would always be.
 fn sorted_out(names: &[u32; ROWS], n: usize) -> bool
     requires { n ≤ 8192 }
     ensures { result ≡ differ names.now n }
 {
     let first = told_of(names, n, 0);
-    if first == TWICE {
+    if first == Verdict::Twice {
         return false;
     }
     let second = told_of(names, n, 1);
-    if second == TWICE {
+    if second == Verdict::Twice {
         return false;
     }
-    if first != APART {
-        return compared(names, n);
+    if first == Verdict::Apart && second == Verdict::Apart {
+        return true;
     }
-    if second != APART {
-        return compared(names, n);
-    }
-    true
+    compared(names, n)
 }
 
 // Whether no two of the first n rows have one name. More rows than there are have no answer.
 pub fn names_differ(names: &[u32; ROWS], n: usize) -> bool
     ensures { n ≤ 8192 → result ≡ differ names.now n }
 {
-    if n > ROWS {
-        return false;
-    }
-    if rising(names, n) {
-        return true;
-    }
-    sorted_out(names, n)
-}
-
-// As many rows as both have: the lesser of two lengths.
-pub fn lesser(a: usize, b: usize) -> usize
-    ensures { result ≡ min a b }
-{
-    if a < b {
-        return a;
-    }
-    b
+    n <= ROWS && (rising(names, n) || sorted_out(names, n))
 }

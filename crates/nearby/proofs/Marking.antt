@@ -72,11 +72,6 @@ module _ (seen : List Bool) (size : length seen ≡ mark_count) (l : List ℕ) w
 
 -- ---- as the code puts them
 
--- the mark of one vertex
-pub marks-one : (seen : List Bool) (v x : ℕ) → length seen ≡ mark_count → x ≡ v → Marks seen (set seen (x % mark_count) true) (v ∷ [])
-unfolding marked_at up_to
-marks-one seen v x size e = rw e (marks-list seen size (v ∷ []))
-
 -- those of a list that the code holds
 pub marks-held : (seen now : List Bool) (l : List ℕ) (r : Links) → length seen ≡ mark_count → length l ≤ 64 → r ≡ links_of l → now ≡ marked_at seen (list_of r) → Marks seen now l
 marks-held seen now l r size few e h = rw (h, e, list_back l few) (marks-list seen size l)

@@ -1,5 +1,5 @@
 -- Rows that become those of another table: one row, the rows of a list, the arcs of new edges, and all of them.
-use Prim.Native.Nat.{ℕ, ◌+◌, ◌-◌, ◌≤◌, ◌<◌}
+use Prim.Native.Nat.{ℕ, ◌+◌, ◌-◌, ◌<◌}
 use native.Mathlib.Numerals.{add-one}
 use native.Mathlib.Omega.{arith}
 use native.Mathlib.Decide.{ℕ_discrete}
@@ -8,8 +8,9 @@ use mathlib.Core.Path.{◌≡◌, refl, ap, sym, ◌∙◌, subst}
 use mathlib.Core.Bool.{true}
 use mathlib.Core.List.{List, [], ◌∷◌, ◌++◌}
 use mathlib.Core.Logic.{◌⊎◌, inl, inr}
-use lib.ListN.{length, get_or, set, take, length-set}
-use lib.Seq.{ext_get_or, get_or-set_same, get_or-set_other, take-suc}
+use Rattle.std.proofs.Common.{Some}
+use lib.ListN.{length, get_or, take}
+use lib.Seq.{ext_get_or, take-suc}
 use Rattle.rules.specs.Table.{Table, has}
 use Rattle.pairs.proofs.Has.{has-before}
 use Rattle.pairs.proofs.Listing.{both}
@@ -24,32 +25,6 @@ toward-same o t = record { size = refl; stays = λ x r. r }
 -- one change after another
 pub toward-then : (o t n p : Table) → Toward o t n → Toward o n p → Toward o t p
 toward-then o t n p a b = record { size = b.size ∙ a.size; stays = λ x r. b.stays x (a.stays x r) }
-
--- row i becomes that of o
-module _ (o t : Table) (i : ℕ) where
-  -- a row that was right, or row i, is right
-  set_is : (j : ℕ) → j < length t → (get_or t j [] ≡ get_or o j []) ⊎ (j ≡ i) → get_or (set t i (get_or o i [])) j [] ≡ get_or o j []
-  set_is j l d = go d (ℕ_discrete j i)
-    where
-      here : j ≡ i → get_or (set t i (get_or o i [])) j [] ≡ get_or o j []
-      here e = rw e (get_or-set_same t i (get_or o i []) [] (omega arith))
-
-      go : (get_or t j [] ≡ get_or o j []) ⊎ (j ≡ i) → Dec (j ≡ i) → get_or (set t i (get_or o i [])) j [] ≡ get_or o j []
-      go d (yes e) = here e
-      go (inl q) (no n) = get_or-set_other t i j (get_or o i []) [] n ∙ q
-      go (inr e) (no n) = here e
-
-  -- x is its link
-  pub copied-row : (x : ℕ) → x - 1 ≡ i → CopiedRow o t (set t i (get_or o i [])) x
-  copied-row x e =
-      (record { size = same; stays = λ y q a b. set_is (y - 1) (omega (arith, same)) (inl (q a (omega (arith, same)))) }, λ a b. set_is (x - 1) (omega (arith, same)) (inr e))
-    where
-      same : length (set t i (get_or o i [])) ≡ length t
-      same = length-set t i (get_or o i [])
-
--- a link of no row copies nothing
-pub copied-out : (o t : Table) (x : ℕ) → (1 ≤ x → x ≤ length t → ⊥) → CopiedRow o t t x
-copied-out o t x n = (toward-same o t, λ a b. absurd (n a b))
 
 -- ---- the rows of a list
 
@@ -72,15 +47,7 @@ module _ (o t n p : Table) where
   copied-read list k l c d =
       subst (λ (z : List ℕ). Copied z o t p) (sym (ap (λ (j : ℕ). take j list) (add-one k) ∙ take-suc list k 0 l)) (copied_more (take k list) (get_or list k 0) c d)
 
--- and at its end
-pub copied_all : (o t n : Table) (list : List ℕ) (k c : ℕ) → k ≡ c → Copied (take k list) o t n → Copied (take c list) o t n
-copied_all o t n list k c e h = subst (λ (j : ℕ). Copied (take j list) o t n) e h
-
 -- ---- the arcs of new edges
-
--- two rows, one after the other
-pub copied-both : (o t n p : Table) (x y : ℕ) → CopiedRow o t n x → CopiedRow o n p y → Toward o t p × (Right o p x × Right o p y)
-copied-both o t n p x y c d = (toward-then o t n p c.0 d.0, (d.0.stays x c.1, d.1))
 
 module _ (were edges o : Table) where
   -- none yet
@@ -99,16 +66,16 @@ all_right : (o n : Table) → length n ≡ length o → ((x : ℕ) → Right o n
 all_right o n e h = ext_get_or [] n o e (λ i l. let w : i + 1 - 1 ≡ i = omega arith in subst (λ (j : ℕ). get_or n j [] ≡ get_or o j []) w (h (i + 1) (omega arith) (omega arith)))
 
 -- the rows listed copied, then the arcs of new edges
-module _ (o t mid n : Table) (list : List ℕ) (c : ℕ) (edges were : Table) (listed : Copied (take c list) o t mid) (new : NewCopied were edges o mid n) where
+module _ (o t mid n : Table) (list : List ℕ) (edges were : Table) (listed : Copied list o t mid) (new : NewCopied were edges o mid n) where
   named : (x : ℕ) (e : OfNewEdge were edges x) → (x ≡ get_or (get_or edges e.row []) 1 0) ⊎ (x ≡ get_or (get_or edges e.row []) 2 0) → Right o n x
   named x e (inl w) = subst (Right o n) (sym w) (new.1 e.row e.within e.new).0
   named x e (inr w) = subst (Right o n) (sym w) (new.1 e.row e.within e.new).1
 
-  each : (x : ℕ) → Right o t x ⊎ ((has (take c list) x ≡ true) ⊎ OfNewEdge were edges x) → Right o n x
+  each : (x : ℕ) → Right o t x ⊎ ((has list x ≡ true) ⊎ OfNewEdge were edges x) → Right o n x
   each x (inl r) = new.0.stays x (listed.0.stays x r)
   each x (inr (inl h)) = new.0.stays x (listed.1 x h)
   each x (inr (inr e)) = named x e e.named
 
   -- so the tables are equal
-  pub over-all : c ≤ 2048 → length t ≡ length o → DifferNear o t list c edges were → n ≡ o
-  over-all q size differ = all_right o n (new.0.size ∙ listed.0.size ∙ size) (λ x. each x (differ q x))
+  pub over-all : length t ≡ length o → DifferNear o t (Some list) edges were → n ≡ o
+  over-all size differ = all_right o n (new.0.size ∙ listed.0.size ∙ size) (λ x. each x (differ x))

@@ -1,38 +1,13 @@
 -- Tests of rings as the code makes them: what each loop over them keeps, and how it ends.
 use Prim.Native.Nat.{ℕ, suc, ◌+◌, ◌-◌, ◌≤◌, ◌<◌}
 use native.Mathlib.Omega.{arith}
-use mathlib.Core.Path.{◌≡◌, ap, sym, ◌∙◌}
+use mathlib.Core.Path.{◌≡◌}
 use mathlib.Core.Bool.{Bool, true, false}
-use mathlib.Core.List.{List, []}
-use lib.ListN.{length, get_or, take}
-use lib.Seq.{length-take-le, get_or-take}
+use mathlib.Core.List.{[]}
+use lib.ListN.{get_or}
 use borrow.Author.Tests.{eq-eqb, ne_eqb}
-use Rattle.rules.specs.Table.{Table, cell, every}
-use Rattle.rules.proofs.Scan.{one-fails}
-use Rattle.names.proofs.Loops.{Passed, one_more, all-passed, every-all}
-use Rattle.nearby.specs.Rings.{ring_at, held_at, walked_from, new_ring}
-
--- ---- the arcs listed
-
--- the arc at a place of a list is on its ring
-abbrev pub listed_at : Table → List ℕ → ℕ → Bool
-listed_at arcs l i = ring_at arcs (get_or l i 0)
-
--- of the first n places of an array
-module _ (arcs : Table) (list : List ℕ) (n : ℕ) (few : n ≤ length list) where
-  -- one more passes
-  pub listed_more : (k : ℕ) → k < n → ring_at arcs (get_or list k 0) ≡ true → Passed (listed_at arcs (take n list)) k → Passed (listed_at arcs (take n list)) (k + 1)
-  listed_more k l e h = one_more (listed_at arcs (take n list)) k h (ap (ring_at arcs) (get_or-take n list k 0 l) ∙ e)
-
-  -- one fails
-  pub listed-fails : (k : ℕ) → k < n → ring_at arcs (get_or list k 0) ≡ false → false ≡ every (ring_at arcs) (take n list)
-  listed-fails k l e = sym (one-fails (ring_at arcs) (take n list) 0 k (omega (arith, length-take-le n list few)) (ap (ring_at arcs) (get_or-take n list k 0 l) ∙ e))
-
-  -- all have passed
-  pub listed-all : (k : ℕ) → n ≤ k → k ≤ n → Passed (listed_at arcs (take n list)) k → true ≡ every (ring_at arcs) (take n list)
-  listed-all k a b h =
-      let s = length-take-le n list few in
-      all-passed (listed_at arcs (take n list)) (length (take n list)) k (omega arith) (omega arith) h ∙ sym (every-all (ring_at arcs) (take n list) 0)
+use Rattle.rules.specs.Table.{Table, cell}
+use Rattle.nearby.specs.Rings.{held_at, walked_from, new_ring}
 
 -- ---- the walk along a new ring
 

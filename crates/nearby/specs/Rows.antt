@@ -1,5 +1,5 @@
 -- Rows near an edit in a list, and rows of one table that become those of another: the listed ones, those of new edges, all.
-use Rattle.std.specs.Prelude.{ℕ, ◌+◌, ◌-◌, ◌≤◌, ◌<◌, ◌≡◌, Bool, true, ◌&&◌, List, [], ◌⊎◌, length, get_or, take}
+use Rattle.std.specs.Prelude.{ℕ, ◌+◌, ◌-◌, ◌≤◌, ◌<◌, ◌≡◌, Bool, true, ◌&&◌, List, [], ◌⊎◌, length, get_or, Option, IfSome}
 use Rattle.rules.specs.Table.{Table, has, unused, used}
 use Rattle.rules.specs.Mesh.{opposite_of}
 use Rattle.pairs.specs.Near.{is_marked}
@@ -70,5 +70,5 @@ pub record OfNewEdge (were edges : Table) (x : ℕ) : Type 0 where
 -- ---- all arcs
 
 -- where t and o differ, the row is listed or is an arc of a new edge; where there were too many to list, they may differ anywhere
-abbrev pub DifferNear : Table → Table → List ℕ → ℕ → Table → Table → Type 0
-DifferNear o t list n edges were = n ≤ 2048 → (x : ℕ) → Right o t x ⊎ ((has (take n list) x ≡ true) ⊎ OfNewEdge were edges x)
+abbrev pub DifferNear : Table → Table → Option (List ℕ) → Table → Table → Type 0
+DifferNear o t near edges were = IfSome near (λ list. (x : ℕ) → Right o t x ⊎ ((has list x ≡ true) ⊎ OfNewEdge were edges x))

@@ -2,11 +2,10 @@
 // face that was there, and then an arc near the edit is no longer on it, or that of a new face. Document 01: "next from there returns .. and previous
 // runs them backwards", and answer 8.
 
-ghost use Rattle.std.specs.Prelude.{◌≡◌, ◌≤◌, length, take};
+ghost use Rattle.std.specs.Prelude.{◌≡◌, ◌≤◌, length};
 ghost use Rattle.rules.specs.Table.{every};
 ghost use Rattle.nearby.specs.Rings.{ring_at, held_at, walked_from, new_ring, new_rings, rings_hold};
 
-use crate::rows::LISTED;
 use rules::{ArcRow, FaceRow, RING};
 use tables::rows;
 
@@ -16,52 +15,26 @@ use tables::rows;
 fn ring_at(arcs: &[ArcRow], x: u32) -> bool
     ensures { result ≡ ring_at arcs.now x }
 {
-    if rows::cell6(arcs, x, 0) == 0 {
-        return true;
-    }
-    let face = rows::cell6(arcs, x, 4);
-    if face == 0 {
-        return true;
-    }
-    if rows::cell6(arcs, rows::cell6(arcs, x, 2), 4) != face {
-        return false;
-    }
-    rows::cell6(arcs, rows::cell6(arcs, x, 3), 4) == face
+    let face = rows::cell(arcs, x, 4);
+    rows::cell(arcs, x, 0) == 0
+        || face == 0
+        || (rows::cell(arcs, rows::cell(arcs, x, 2), 4) == face
+            && rows::cell(arcs, rows::cell(arcs, x, 3), 4) == face)
 }
 
 // An arc of the ring of g.
 fn held_at(arcs: &[ArcRow], g: u32, x: u32) -> bool
     ensures { result ≡ held_at arcs.now g x }
 {
-    if rows::cell6(arcs, x, 0) == 0 {
-        return false;
-    }
-    if rows::cell6(arcs, x, 4) != g {
-        return false;
-    }
-    ring_at(arcs, x)
+    rows::cell(arcs, x, 0) != 0 && rows::cell(arcs, x, 4) == g && ring_at(arcs, x)
 }
 
 // ---- the arcs listed
 
-// Says only how many places the list has.
-fn known_places(list: [u32; LISTED])
-    ensures { length list ≡ 2048 }
-{}
-
-fn listed_rings(arcs: &[ArcRow], list: &[u32; LISTED], n: usize) -> bool
-    requires { n ≤ 2048 }
-    ensures { result ≡ every (ring_at arcs.now) (take n list.now) }
+fn listed_rings(arcs: &[ArcRow], list: &[u32]) -> bool
+    ensures { result ≡ every (ring_at arcs.now) list.now }
 {
-    known_places(*list);
-    let mut k: usize = 0;
-    while k < n {
-        if !ring_at(arcs, list[k]) {
-            return false;
-        }
-        k += 1;
-    }
-    true
+    list.iter().all(|x| ring_at(arcs, *x))
 }
 
 // ---- new faces
@@ -71,16 +44,14 @@ fn walked(arcs: &[ArcRow], g: u32, first: u32) -> bool
     ensures { result ≡ walked_from arcs.now g first 64 first }
 {
     let mut x = first;
-    let mut k: usize = 0;
-    while k < RING {
+    for _ in 0..RING {
         if !held_at(arcs, g, x) {
             return false;
         }
-        x = rows::cell6(arcs, x, 2);
+        x = rows::cell(arcs, x, 2);
         if x == first {
             return true;
         }
-        k += 1;
     }
     false
 }
@@ -89,10 +60,7 @@ fn walked(arcs: &[ArcRow], g: u32, first: u32) -> bool
 fn new_ring(arcs: &[ArcRow], from: u32, row: FaceRow, g: u32) -> bool
     ensures { result ≡ new_ring arcs.now from row g }
 {
-    if row[0] <= from {
-        return true;
-    }
-    walked(arcs, g, row[1])
+    row[0] <= from || walked(arcs, g, row[1])
 }
 
 // Every face whose key was not yet given when the counter was `from`.
@@ -100,29 +68,18 @@ fn new_rings(arcs: &[ArcRow], faces: &[FaceRow], from: u32) -> bool
     requires { length faces.now ≤ 4096 }
     ensures { result ≡ new_rings arcs.now faces.now from }
 {
-    let mut i: usize = 0;
-    while i < faces.len() {
-        if !new_ring(arcs, from, faces[i], i as u32 + 1) {
+    for (i, row) in faces.iter().enumerate() {
+        if !new_ring(arcs, from, *row, i as u32 + 1) {
             return false;
         }
-        i += 1;
     }
     true
 }
 
-// All of it, where n arcs are listed.
-pub fn rings_hold(
-    arcs: &[ArcRow],
-    faces: &[FaceRow],
-    list: &[u32; LISTED],
-    n: usize,
-    from: u32,
-) -> bool
-    requires { (n ≤ 2048) × (length faces.now ≤ 4096) }
-    ensures { result ≡ rings_hold arcs.now faces.now (take n list.now) from }
+// All of it, by the arcs listed.
+pub fn rings_hold(arcs: &[ArcRow], faces: &[FaceRow], list: &[u32], from: u32) -> bool
+    requires { length faces.now ≤ 4096 }
+    ensures { result ≡ rings_hold arcs.now faces.now list.now from }
 {
-    if !listed_rings(arcs, list, n) {
-        return false;
-    }
-    new_rings(arcs, faces, from)
+    listed_rings(arcs, list) && new_rings(arcs, faces, from)
 }

@@ -2,40 +2,26 @@
 // and its new arcs are those of edges that were not there. So these rows alone are copied over when it is accepted. Document 01: "work in lent room,
 // copied over only when accepted".
 
-ghost use Rattle.std.specs.Prelude.{◌≡◌, Bool, List, ◌+◌, ◌≤◌, ◌<◌, length, take};
+ghost use Rattle.std.specs.Prelude.{◌≡◌, Bool, List, ◌+◌, ◌≤◌, ◌<◌, length, take, IfSome, option_copied};
+ghost use Rattle.rules.specs.Lent.{mesh_of, SameMesh};
+ghost use Rattle.rules.specs.Mesh.{with_arcs};
 ghost use Rattle.nearby.specs.Rows.{SixCells, Listed, ListedTo, CopiedRow, Copied, is_new, Toward, RightIfNew, NewCopied, DifferNear};
 
 use pairs::{MARKS, marked};
-use rules::{ArcRow, EdgeRow};
-use tables::{rows, sets};
+use rules::{ArcRow, EdgeRow, MeshMut, RoomRef};
+use tables::rows::{self, ROW_LIMIT};
 
 // How many links are listed at most.
 pub const LISTED: usize = 2048;
 
-// What is told where there are more: the list says nothing then.
-pub const TOO_MANY: usize = 2049;
-
-// The largest table that has links to give.
-const ROW_LIMIT: usize = 16384;
-
-// Says only how many places the list has.
-fn known_places(list: [u32; LISTED])
-    ensures { length list ≡ 2048 }
-{}
-
-// Says only that every row has six cells. No code is left of it.
+// Says only that every row has six cells.
 pub fn known_rows(arcs: &[ArcRow])
     ensures { SixCells arcs.now }
-{
-    let mut i: usize = 0;
-    while i < arcs.len() {
-        rows::known6(arcs[i]);
-        i += 1;
-    }
-}
+{}
 
 // ---- the list
 
+// Kept: no heap and fixed memory, so the list is filled here with its number of links beside it; all others are given its links as a slice.
 // The arc in row i and its opposite, listed behind n links, unless the row is unused: how many links there are then.
 fn list_row(
     list: &mut [u32; LISTED],
@@ -48,7 +34,6 @@ fn list_row(
     ensures { (result ≤ n + 2) × ((seen : List Bool) → ListedTo arcs.now edges.now seen (take n list.old) i →
         ListedTo arcs.now edges.now seen (take result list.new) (i + 1)) }
 {
-    known_places(*list);
     if arcs[i][0] == 0 {
         return n;
     }
@@ -58,28 +43,28 @@ fn list_row(
     n + 2
 }
 
-// Every arc that leaves a vertex with a mark, and its opposite: how many links are listed, or that there are too many.
+// Every arc that leaves a vertex with a mark, and its opposite: how many links are listed, or none where there are too many.
 pub fn list_rows(
     list: &mut [u32; LISTED],
     arcs: &[ArcRow],
     edges: &[EdgeRow],
     seen: &[bool; MARKS],
-) -> usize
-    ensures { result ≤ 2048 → Listed arcs.now edges.now seen.now (take result list.new) }
+) -> Option<usize>
+    ensures { IfSome result (λ n. (n ≤ 2048) × Listed arcs.now edges.now seen.now (take n list.new)) }
 {
     if arcs.len() > ROW_LIMIT {
-        return TOO_MANY;
+        return None;
     }
     let mut n: usize = 0;
     let mut i = marked::skip(arcs, seen, 0);
     while i < arcs.len() {
         if n + 2 > LISTED {
-            return TOO_MANY;
+            return None;
         }
         n = list_row(list, arcs, edges, n, i);
         i = marked::skip(arcs, seen, i + 1);
     }
-    n
+    Some(n)
 }
 
 // ---- the rows
@@ -89,26 +74,19 @@ fn copy_row(to: &mut [ArcRow], from: &[ArcRow], x: u32)
     requires { length to.old ≡ length from.now }
     ensures { CopiedRow from.now to.old to.new x }
 {
-    if x == 0 {
-        return;
+    let l = x as usize;
+    if l != 0 && l <= to.len() {
+        to[l - 1] = from[l - 1];
     }
-    let i = rows::wide(x) - 1;
-    if i >= to.len() {
-        return;
-    }
-    to[i] = from[i];
 }
 
-// The first n rows listed become those of the other table.
-fn copy_listed(to: &mut [ArcRow], from: &[ArcRow], list: &[u32; LISTED], n: usize)
-    requires { (length to.old ≡ length from.now) × (n ≤ 2048) }
-    ensures { Copied (take n list.now) from.now to.old to.new }
+// The rows listed become those of the other table.
+fn copy_listed(to: &mut [ArcRow], from: &[ArcRow], list: &[u32])
+    requires { length to.old ≡ length from.now }
+    ensures { Copied list.now from.now to.old to.new }
 {
-    known_places(*list);
-    let mut k: usize = 0;
-    while k < n {
-        copy_row(to, from, list[k]);
-        k += 1;
+    for x in list {
+        copy_row(to, from, *x);
     }
 }
 
@@ -118,55 +96,50 @@ fn copy_listed(to: &mut [ArcRow], from: &[ArcRow], list: &[u32; LISTED], n: usiz
 fn is_new(was: EdgeRow, row: EdgeRow) -> bool
     ensures { result ≡ is_new was row }
 {
-    if was[0] != 0 {
-        return false;
-    }
-    row[0] != 0
+    was[0] == 0 && row[0] != 0
 }
 
-// Both arcs of the edge in row i become those of the other table if that edge was not there.
-fn copy_arcs(to: &mut [ArcRow], from: &[ArcRow], edges: &[EdgeRow], were: &[EdgeRow], i: usize)
-    requires { (i < length edges.now) × ((length edges.now ≡ length were.now) × (length to.old ≡ length from.now)) }
-    ensures { Toward from.now to.old to.new
-        × RightIfNew were.now edges.now from.now to.new i }
+// Both arcs of the edge in row i become those of the room if that edge was not there.
+fn copy_arcs(mesh: &mut MeshMut, room: RoomRef, i: usize)
+    requires { (i < length room.edges.now)
+        × ((length room.edges.now ≡ length mesh.old.edges.now) × (length mesh.old.arcs.now ≡ length room.arcs.now)) }
+    ensures copied { Toward room.entry.arcs.now mesh.old.arcs.now mesh.new.arcs.now
+        × RightIfNew mesh.old.edges.now room.entry.edges.now room.entry.arcs.now mesh.new.arcs.now i }
+    ensures arcs_alone { mesh_of mesh.new ≡ with_arcs (mesh_of mesh.old) mesh.new.arcs.now }
+    ensures same { SameMesh mesh.old mesh.new }
 {
-    if !is_new(were[i], edges[i]) {
-        return;
+    let row = room.edges[i];
+    if is_new(mesh.edges[i], row) {
+        copy_row(mesh.arcs, room.arcs, row[1]);
+        copy_row(mesh.arcs, room.arcs, row[2]);
     }
-    copy_row(to, from, edges[i][1]);
-    copy_row(to, from, edges[i][2]);
 }
 
 // The arcs of every new edge do.
-fn copy_new(to: &mut [ArcRow], from: &[ArcRow], edges: &[EdgeRow], were: &[EdgeRow])
-    requires { (length edges.now ≡ length were.now) × (length to.old ≡ length from.now) }
-    ensures { NewCopied were.now edges.now from.now to.old to.new }
+fn copy_new(mesh: &mut MeshMut, room: RoomRef)
+    requires { (length room.edges.now ≡ length mesh.old.edges.now) × (length mesh.old.arcs.now ≡ length room.arcs.now) }
+    ensures copied { NewCopied mesh.old.edges.now room.entry.edges.now room.entry.arcs.now mesh.old.arcs.now mesh.new.arcs.now }
+    ensures arcs_alone { mesh_of mesh.new ≡ with_arcs (mesh_of mesh.old) mesh.new.arcs.now }
+    ensures same { SameMesh mesh.old mesh.new }
 {
-    let mut i: usize = 0;
-    while i < edges.len() {
-        copy_arcs(to, from, edges, were, i);
-        i += 1;
+    for i in 0..room.edges.len() {
+        copy_arcs(mesh, room, i);
     }
 }
 
-// The arcs become those of the other table, where they differ near the edit alone: the listed rows and those of new edges are copied, or all where there
-// were too many to list.
-pub fn copy_over(
-    to: &mut [ArcRow],
-    from: &[ArcRow],
-    list: &[u32; LISTED],
-    n: usize,
-    edges: &[EdgeRow],
-    were: &[EdgeRow],
-)
-    requires edges_len { (length edges.now ≡ length were.now) × (length to.old ≡ length from.now) }
-    requires differ_near { DifferNear from.now to.old list.now n edges.now were.now }
-    ensures { to.new ≡ from.now }
+// The arcs become those of the room, where they differ near the edit alone: the listed rows and those of new edges are copied, or all where there were
+// too many to list.
+pub fn copy_over(mesh: &mut MeshMut, room: RoomRef, near: Option<&[u32]>)
+    requires sizes { (length room.edges.now ≡ length mesh.old.edges.now) × (length mesh.old.arcs.now ≡ length room.arcs.now) }
+    requires differ_near { DifferNear room.arcs.now mesh.old.arcs.now (option_copied near) room.edges.now mesh.old.edges.now }
+    ensures value { mesh_of mesh.new ≡ with_arcs (mesh_of mesh.old) room.entry.arcs.now }
+    ensures same { SameMesh mesh.old mesh.new }
 {
-    if n > LISTED {
-        sets::copy6(to, from);
-        return;
+    match near {
+        Some(list) => {
+            copy_listed(mesh.arcs, room.arcs, list);
+            copy_new(mesh, room);
+        }
+        None => mesh.arcs.copy_from_slice(room.arcs),
     }
-    copy_listed(to, from, list, n);
-    copy_new(to, from, edges, were);
 }

@@ -3,8 +3,8 @@ use mathlib.Core.Path.{◌≡◌, refl, ap, sym, ◌∙◌}
 use mathlib.Core.Bool.{Bool, true, false, ◌&&◌}
 use mathlib.Core.List.{List}
 use Prim.Native.Nat.{ℕ}
-use Rattle.rules.specs.declared.Answer.{Answer}
-use Rattle.rules.specs.declared.Answer.TheVariants.{Done, Refused}
+use Rattle.rules.specs.Answer.{Done, Refused}
+use Rattle.rules.specs.declared.Refusal.{Refusal}
 use Rattle.rules.specs.declared.Refusal.TheVariants.{Argument, NoRoom}
 use Rattle.rules.specs.declared.Edit.{Edit}
 use Rattle.rules.specs.Mesh.{Mesh, Room}
@@ -19,13 +19,14 @@ module _ (m : Mesh) (e : Edit) (keys : List ℕ) where
   not-given g = rw g
 
   module _ (g : given e keys ≡ true) where
-    pub checks-refuse : (x : Answer) → x ≡ checks m e keys → accepted x ≡ false → x ≡ before_work m e keys
-    unfolding before_work
-    checks-refuse x ex a = ex ∙ rw (g, ap accepted (sym ex) ∙ a)
+    pub checks-refuse : {r : Refusal} → Refused r ≡ checks m e keys → Refused r ≡ before_work m e keys
+    unfolding before_work accepted
+    checks-refuse h = h ∙ rw (g, ap accepted (sym h))
 
-    module _ (x : Answer) (ex : x ≡ checks m e keys) (a : accepted x ≡ true) where
+    module _ (a : Done ≡ checks m e keys) where
       passed : accepted (checks m e keys) ≡ true
-      passed = ap accepted (sym ex) ∙ a
+      unfolding accepted
+      passed = ap accepted (sym a)
 
       pub not-moves : moves_finite m e ≡ false → Refused Argument ≡ before_work m e keys
       unfolding before_work
@@ -42,23 +43,19 @@ module _ (m : Mesh) (e : Edit) (keys : List ℕ) where
 
 -- ---- whether a call can begin
 
-and-false : (b : Bool) → (b && false) ≡ false
+and-false : (b : Bool) → false ≡ (b && false)
 and-false true = refl
 and-false false = refl
 
+and-true : (b : Bool) → b ≡ (b && true)
+and-true true = refl
+and-true false = refl
+
 module _ (m : Mesh) (one two : Room) where
-  pub one-short : room_enough m one ≡ false → false ≡ ready m one two
+  pub rooms-first : (room_enough m one && room_enough m two) ≡ true → sound m ≡ ready m one two
   unfolding ready
-  one-short e = sym (rw e (and-false (sound m)))
+  rooms-first e = rw e (and-true (sound m))
 
-  pub two-short : room_enough m one ≡ true → room_enough m two ≡ false → false ≡ ready m one two
+  pub rooms-short : (room_enough m one && room_enough m two) ≡ false → false ≡ ready m one two
   unfolding ready
-  two-short d e = sym (rw (d, e) (and-false (sound m)))
-
-  pub both-enough : room_enough m one ≡ true → room_enough m two ≡ true → sound m ≡ ready m one two
-  unfolding ready
-  both-enough d e = rw (d, e) (and-true (sound m))
-    where
-      and-true : (b : Bool) → b ≡ (b && true)
-      and-true true = refl
-      and-true false = refl
+  rooms-short e = rw e (and-false (sound m))

@@ -1,11 +1,17 @@
 -- What settling comes to, over plain values: a step over the mesh, and what is answered when the work is done.
 use mathlib.Core.Path.{◌≡◌, refl, ap, sym, ◌∙◌}
 use mathlib.Core.Bool.{Bool, true, false, cond}
-use Rattle.rules.specs.declared.Answer.{Answer}
+use Rattle.std.specs.Prelude.{Result, Ok, Err}
+use Rattle.rules.specs.Answer.{Answer}
+use Rattle.rules.specs.Answer.{Refused}
+use Rattle.rules.specs.declared.Told.{Told}
+use Rattle.rules.specs.declared.Told.TheVariants as Tell
+use Rattle.rules.specs.Lent.{given_by, answered}
 use Rattle.rules.specs.Mesh.{Mesh, Room, room}
 use Rattle.rules.specs.Step.{Step, step, stops, accepted}
 use Rattle.rules.specs.Call.{kept, worked, last_step}
 use Rattle.rules.specs.Sound.{sound}
+use Rattle.rules.specs.declared.Refusal.{Refusal}
 use Rattle.rules.specs.declared.Refusal.TheVariants.{WouldBreak}
 use Rattle.order.specs.Transaction as T
 use Rattle.order.specs.Transaction.{left, SameSize}
@@ -34,6 +40,34 @@ worked-broken s e h = rw (e, h)
 pub worked-done : (s : Step) → accepted s.answer ≡ true → sound s.tables ≡ true → worked s ≡ s
 unfolding worked last_step
 worked-done s e h = rw (e, h)
+
+-- what the work told is an answer that is accepted
+pub is_answer : (t : Told) → accepted (given_by t) ≡ true
+unfolding accepted
+is_answer (Tell.Key k) = refl
+is_answer (Tell.Arc s d) = refl
+is_answer (Tell.Mark n) = refl
+is_answer (Tell.Arity n) = refl
+is_answer Tell.Done = refl
+
+-- the same by what the work told, on the tables m
+module _ (m : Mesh) (told : Result Told Refusal) where
+  settled-as : (x : Answer) → answered told ≡ x → (s : Step) → worked (step m x) ≡ s → s.answer ≡ (worked (step m (answered told))).answer
+  settled-as x e s h = ap (λ (t : Step). t.answer) (sym (ap (λ (a : Answer). worked (step m a)) e ∙ h))
+
+  pub told-refused : {r : Refusal} → told ≡ Err r → Refused r ≡ (worked (step m (answered told))).answer
+  unfolding accepted
+  told-refused {r} e = settled-as (Refused r) (ap answered e) _ (worked-refused (step m (Refused r)) refl)
+
+  module _ {t : Told} (e : told ≡ Ok t) where
+    pub told-accepted : accepted (answered told) ≡ true
+    told-accepted = ap (λ (x : Result Told Refusal). accepted (answered x)) e ∙ is_answer t
+
+    pub told-stands : sound m ≡ true → given_by t ≡ (worked (step m (answered told))).answer
+    told-stands h = settled-as (given_by t) (ap answered e) _ (worked-done (step m (given_by t)) (is_answer t) h)
+
+    pub told-broken : sound m ≡ false → Refused WouldBreak ≡ (worked (step m (answered told))).answer
+    told-broken h = settled-as (given_by t) (ap answered e) _ (worked-broken (step m (given_by t)) (is_answer t) h)
 
 -- the tables are the work's, whatever is answered
 worked-tables : (s : Step) → (worked s).tables ≡ s.tables

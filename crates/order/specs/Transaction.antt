@@ -1,16 +1,18 @@
 -- A call in the pieces in which the code goes through it: what is decided before the first change, how it is known that what an edit leaves is sound, and
 -- what is left when all is settled.
-use Rattle.std.specs.Prelude.{◌≡◌, Bool, true, false, not, cond, List, ℕ, length}
-use Rattle.rules.specs.declared.Answer.{Answer}
-use Rattle.rules.specs.declared.Answer.TheVariants.{Done, Refused}
+use Rattle.std.specs.Prelude.{◌≡◌, ◌≤◌, not, cond, List, ℕ, length, Option, IfSome}
+use Rattle.rules.specs.Answer.{Answer}
+use Rattle.rules.specs.Answer.{Done, Refused}
 use Rattle.rules.specs.declared.Refusal.TheVariants.{Argument, NoRoom}
 use Rattle.rules.specs.declared.Edit.{Edit}
 use Rattle.rules.specs.declared.Edit.TheVariants.{VertexInsert, FaceInsert, FaceRemove, FaceSplit, FacePoke, FaceBridge, FaceExtrude, ArcBridge, ArcExtrude}
 use Rattle.order.specs.declared.settle.Way.{Way}
-use Rattle.order.specs.declared.settle.Way.TheVariants.{Keeps, Near, Full}
-use Rattle.rules.specs.Mesh.{Mesh, Room}
+use Rattle.order.specs.declared.settle.Way.TheVariants.{Keeps, Near}
+use Rattle.rules.specs.Mesh.{Mesh, mesh, Room}
 use Rattle.rules.specs.Step.{Step, accepted}
+use Rattle.rules.specs.Sound.{sound}
 use Rattle.rules.specs.Call.{kept, given, checks, moves_finite, room_for, need}
+use Rattle.nearby.specs.Rings.{rings_hold}
 
 -- what is answered and which mesh is left
 pub record Left : Type 0 where
@@ -23,6 +25,10 @@ left a m = record { answer = a; mesh = m }
 -- a step of an edit over the mesh m: its answer, and its tables if it is accepted
 unfoldable pub over : Mesh → Step → Left
 over m s = left s.answer (kept m s)
+
+-- tables with counters, as a mesh
+abbrev pub with_counters : Room → List ℕ → Mesh
+with_counters r k = mesh r.vertices r.positions r.arcs r.edges r.faces k
 
 -- tables of the same sizes
 pub record SameSize (r s : Room) : Type 0 where
@@ -54,12 +60,6 @@ way_of (FaceExtrude f move) = Near
 way_of (ArcBridge a b c d) = Near
 way_of (ArcExtrude s d move) = Near
 
-unfoldable pub is_keeps : Way → Bool
-is_keeps Keeps = true
-is_keeps Near = false
-is_keeps Full = false
-
-unfoldable pub is_near : Way → Bool
-is_near Keeps = false
-is_near Near = true
-is_near Full = false
+-- the rings near an edit tell whether it leaves m sound, where its arcs are listed; `from` is the face counter before it
+abbrev pub RingsTell : Mesh → Option (List ℕ) → ℕ → Type 0
+RingsTell m near from = IfSome near (λ list. (length m.faces ≤ 4096) × (rings_hold m.arcs m.faces list from ≡ sound m))

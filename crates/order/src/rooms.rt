@@ -1,77 +1,46 @@
 // The rooms: an edit works in room one, on a copy of the mesh, which is copied over only when the edit is accepted; and both rooms when a call ends. Document 01:
 // "`Transact` becomes work in lent room, copied over only when accepted", and "Working room ends all zero, accepted or not".
 
-ghost use Rattle.std.specs.Prelude.{◌≡◌};
+ghost use Rattle.std.specs.Prelude.{◌≡◌, option_copied};
+ghost use Rattle.rules.specs.Lent.{mesh_in, mesh_of, room_in, room_of, tables_of, SameMesh, SameRoom};
 ghost use Rattle.rules.specs.Call.{zeroed};
 ghost use Rattle.nearby.specs.Rows.{DifferNear};
-ghost use Rattle.order.specs.Transaction.{SameSize};
-ghost use Rattle.rules.specs.Mesh.{room};
+ghost use Rattle.order.specs.Transaction.{SameSize, with_counters};
 
 use nearby::rows;
-use nearby::rows::LISTED;
-use rules::{ArcRow, EdgeRow, FaceRow, PositionRow, VertexRow};
+use rules::{MeshMut, MeshRef, RoomMut, RoomRef};
 use tables::sets;
 
-// The mesh copied into room that is as long: v, p, a, e, f.
-pub fn copy_in(
-    v: &mut [VertexRow],
-    p: &mut [PositionRow],
-    a: &mut [ArcRow],
-    e: &mut [EdgeRow],
-    f: &mut [FaceRow],
-    vertices: &[VertexRow],
-    positions: &[PositionRow],
-    arcs: &[ArcRow],
-    edges: &[EdgeRow],
-    faces: &[FaceRow],
-)
-    requires { SameSize (room vertices.now positions.now arcs.now edges.now faces.now) (room v.old p.old a.old e.old f.old) }
-    ensures { room v.new p.new a.new e.new f.new ≡ room vertices.now positions.now arcs.now edges.now faces.now }
+// The mesh copied into room that is as long.
+pub fn copy_in(room: &mut RoomMut, mesh: MeshRef)
+    requires { SameSize (tables_of (mesh_in mesh)) (room_of room.old) }
+    ensures value { room_of room.new ≡ tables_of (mesh_in mesh.entry) }
+    ensures same { SameRoom room.old room.new }
 {
-    sets::copy_set(v, p, a, e, f, vertices, positions, arcs, edges, faces);
+    sets::copy_set(room, mesh);
 }
 
-// What an accepted edit left in that room, copied over the mesh. Of the arcs only the n listed near the edit and those of new edges can differ.
-pub fn copy_over(
-    vertices: &mut [VertexRow],
-    positions: &mut [PositionRow],
-    arcs: &mut [ArcRow],
-    edges: &mut [EdgeRow],
-    faces: &mut [FaceRow],
-    v: &[VertexRow],
-    p: &[PositionRow],
-    a: &[ArcRow],
-    e: &[EdgeRow],
-    f: &[FaceRow],
-    list: &[u32; LISTED],
-    n: usize,
-)
-    requires same_size { SameSize (room vertices.old positions.old arcs.old edges.old faces.old) (room v.now p.now a.now e.now f.now) }
-    requires differ_near { DifferNear a.now arcs.old list.now n e.now edges.old }
-    ensures { room vertices.new positions.new arcs.new edges.new faces.new ≡ room v.now p.now a.now e.now f.now }
+// What an accepted edit left in that room, copied over the mesh. Of the arcs only those listed near the edit and those of new edges can differ.
+pub fn copy_over(mesh: &mut MeshMut, room: RoomRef, near: Option<&[u32]>)
+    requires same_size { SameSize (tables_of (mesh_of mesh.old)) (room_in room) }
+    requires differ_near { DifferNear room.arcs.now mesh.old.arcs.now (option_copied near) room.edges.now mesh.old.edges.now }
+    ensures value { mesh_of mesh.new ≡ with_counters (room_in room.entry) mesh.old.counters.now }
+    ensures same { SameMesh mesh.old mesh.new }
 {
-    rows::copy_over(arcs, a, list, n, e, edges);
-    sets::copy2(vertices, v);
-    sets::copy_positions(positions, p);
-    sets::copy3(edges, e);
-    sets::copy3(faces, f);
+    rows::copy_over(mesh, room, near);
+    mesh.vertices.copy_from_slice(room.vertices);
+    mesh.positions.copy_from_slice(room.positions);
+    mesh.edges.copy_from_slice(room.edges);
+    mesh.faces.copy_from_slice(room.faces);
 }
 
 // Every row of both rooms becomes zero.
-pub fn clear(
-    v1: &mut [VertexRow],
-    p1: &mut [PositionRow],
-    a1: &mut [ArcRow],
-    e1: &mut [EdgeRow],
-    f1: &mut [FaceRow],
-    v2: &mut [VertexRow],
-    p2: &mut [PositionRow],
-    a2: &mut [ArcRow],
-    e2: &mut [EdgeRow],
-    f2: &mut [FaceRow],
-)
-    ensures { (room v1.new p1.new a1.new e1.new f1.new ≡ zeroed (room v1.old p1.old a1.old e1.old f1.old)) × (room v2.new p2.new a2.new e2.new f2.new ≡ zeroed (room v2.old p2.old a2.old e2.old f2.old)) }
+pub fn clear(room1: &mut RoomMut, room2: &mut RoomMut)
+    ensures one { room_of room1.new ≡ zeroed (room_of room1.old) }
+    ensures two { room_of room2.new ≡ zeroed (room_of room2.old) }
+    ensures same1 { SameRoom room1.old room1.new }
+    ensures same2 { SameRoom room2.old room2.new }
 {
-    sets::zero_set(v1, p1, a1, e1, f1);
-    sets::zero_set(v2, p2, a2, e2, f2);
+    sets::zero_set(room1);
+    sets::zero_set(room2);
 }

@@ -1,22 +1,19 @@
 // What is settled when the work is done: a refusal in mid-edit, 8 if the result is not sound, else what the work told. Document 01: "the Rust's refusals in
 // mid-edit; 8".
 
-ghost use Rattle.std.specs.Prelude.{◌≡◌, true, ◌≤◌, length, take};
+ghost use Rattle.std.specs.Prelude.{◌≡◌, true, option_copied};
+ghost use Rattle.rules.specs.Lent.{mesh_in, answered};
 ghost use Rattle.rules.specs.Step.{step, accepted};
 ghost use Rattle.rules.specs.Sound.{sound};
 ghost use Rattle.rules.specs.Call.{worked};
-ghost use Rattle.nearby.specs.Rings.{rings_hold};
-ghost use Rattle.order.specs.Transaction.{way_of, is_keeps, is_near};
-ghost use Rattle.rules.specs.Mesh.{mesh};
+ghost use Rattle.order.specs.Transaction.{way_of, RingsTell};
 
 use nearby::rings;
-use nearby::rows::LISTED;
-use rules::{Answer, ArcRow, EdgeRow, Edit, FaceRow, PositionRow, Refusal, VertexRow};
-use tables::answers;
+use rules::{Edit, MeshRef, Refusal, Told};
 
 // How it is known that what an edit leaves is sound: kept by proof, told by the rings near it, or told by the full check. A new edit may begin with the full
-// check, which asks nothing of it.
-#[derive(Clone, Copy)]
+// check, which asks nothing of it. What is kept by proof needs no room, and nothing is to be settled.
+#[derive(Clone, Copy, PartialEq)]
 pub enum Way {
     Keeps,
     Near,
@@ -27,87 +24,42 @@ pub fn way_of(edit: Edit) -> Way
     ensures { result ≡ way_of edit }
 {
     match edit {
-        Edit::VertexInsert(_) => Way::Keeps,
-        Edit::FaceInsert(_) => Way::Near,
-        Edit::FaceRemove(_) => Way::Keeps,
-        Edit::FaceSplit(_, _, _) => Way::Near,
-        Edit::FacePoke(_, _) => Way::Near,
-        Edit::FaceBridge(_, _) => Way::Near,
-        Edit::FaceExtrude(_, _) => Way::Near,
-        Edit::ArcBridge(_, _, _, _) => Way::Near,
-        Edit::ArcExtrude(_, _, _) => Way::Near,
+        Edit::VertexInsert(_) | Edit::FaceRemove(_) => Way::Keeps,
+        Edit::FaceInsert(_)
+        | Edit::FaceSplit(_, _, _)
+        | Edit::FacePoke(_, _)
+        | Edit::FaceBridge(_, _)
+        | Edit::FaceExtrude(_, _)
+        | Edit::ArcBridge(_, _, _, _)
+        | Edit::ArcExtrude(_, _, _) => Way::Near,
     }
 }
 
-// Whether it is kept by proof: then nothing is to be settled, and the edit needs no room.
-pub fn is_keeps(way: Way) -> bool
-    ensures { result ≡ is_keeps way }
+// Whether the tables are sound, after an edit from which on the arcs near it are listed and the face counter was `from`. The rings near it tell where there is
+// a list.
+fn sound_after(mesh: MeshRef, near: Option<&[u32]>, from: u32) -> bool
+    requires { RingsTell (mesh_in mesh) (option_copied near) from }
+    ensures { result ≡ sound (mesh_in mesh.entry) }
 {
-    match way {
-        Way::Keeps => true,
-        Way::Near => false,
-        Way::Full => false,
+    match near {
+        Some(list) => rings::rings_hold(mesh.arcs, mesh.faces, list, from),
+        None => sound::queries::is_sound(mesh),
     }
-}
-
-// Whether the rings near it tell.
-pub fn is_near(way: Way) -> bool
-    ensures { result ≡ is_near way }
-{
-    match way {
-        Way::Keeps => false,
-        Way::Near => true,
-        Way::Full => false,
-    }
-}
-
-// Whether the tables are sound, after an edit from which on n arcs near it are listed and the face counter was `from`. The rings near it tell where the list
-// does.
-fn sound_after(
-    vertices: &[VertexRow],
-    positions: &[PositionRow],
-    arcs: &[ArcRow],
-    edges: &[EdgeRow],
-    faces: &[FaceRow],
-    counters: &[u32; 3],
-    list: &[u32; LISTED],
-    n: usize,
-    from: u32,
-) -> bool
-    requires { n ≤ 2048 → (length faces.now ≤ 4096)
-        × (rings_hold arcs.now faces.now (take n list.now) from ≡ sound (mesh vertices.now positions.now arcs.now edges.now faces.now counters.now)) }
-    ensures { result ≡ sound (mesh vertices.now positions.now arcs.now edges.now faces.now counters.now) }
-{
-    if n > LISTED {
-        return sound::queries::is_sound(vertices, positions, arcs, edges, faces, counters);
-    }
-    rings::rings_hold(arcs, faces, list, n, from)
 }
 
 // What the work told, or 8 where the tables that it leaves are not sound.
 pub fn judged(
-    vertices: &[VertexRow],
-    positions: &[PositionRow],
-    arcs: &[ArcRow],
-    edges: &[EdgeRow],
-    faces: &[FaceRow],
-    counters: &[u32; 3],
-    list: &[u32; LISTED],
-    n: usize,
+    mesh: MeshRef,
+    near: Option<&[u32]>,
     from: u32,
-    told: Answer,
-) -> Answer
-    requires { accepted told ≡ true → n ≤ 2048 → (length faces.now ≤ 4096)
-        × (rings_hold arcs.now faces.now (take n list.now) from ≡ sound (mesh vertices.now positions.now arcs.now edges.now faces.now counters.now)) }
-    ensures { result ≡ (worked (step (mesh vertices.now positions.now arcs.now edges.now faces.now counters.now) told)).answer }
+    told: Result<Told, Refusal>,
+) -> Result<Told, Refusal>
+    requires { accepted (answered told) ≡ true → RingsTell (mesh_in mesh) (option_copied near) from }
+    ensures { answered result ≡ (worked (step (mesh_in mesh.entry) (answered told))).answer }
 {
-    if !answers::accepted(told) {
-        return told;
+    let done = told?;
+    if sound_after(mesh, near, from) {
+        return Ok(done);
     }
-    if sound_after(
-        vertices, positions, arcs, edges, faces, counters, list, n, from,
-    ) {
-        return told;
-    }
-    Answer::Refused(Refusal::WouldBreak)
+    Err(Refusal::WouldBreak)
 }

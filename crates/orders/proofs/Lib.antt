@@ -1,4 +1,3 @@
-pub mod Comparing
 pub mod Merging
 pub mod Strictly
 pub mod Halves

@@ -7,11 +7,4 @@ pub mod keys; // keys.rt: the key in a row
 pub mod kinds; // kinds.rt: the four kinds of records, and which of two comes before the other
 pub mod sorted; // sorted.rt: the used links of a kind in order
 
-// The four kinds of records.
-#[derive(Clone, Copy)]
-pub enum Kind {
-    Vertices,
-    Arcs,
-    Edges,
-    Faces,
-}
+pub use kinds::Kind;

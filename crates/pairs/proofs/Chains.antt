@@ -4,7 +4,10 @@ use native.Mathlib.Nat.{le_refl, not-suc-le-zero}
 use native.Mathlib.Omega.{arith}
 use native.Mathlib.Decide.{ℕ_discrete}
 use borrow.Author.Count.{below_more}
+use borrow.Author.Tests.{eq-eqb, ne_eqb}
+use lib.Dec.{eqb}
 use mathlib.Core.Path.{◌≡◌, refl, ap, sym, ◌∙◌, subst}
+use mathlib.Core.Bool.{cond}
 use mathlib.Core.List.{List, [], ◌∷◌, ◌++◌}
 use lib.ListN.{length, get_or, set, take, length-set}
 use lib.Seq.{get_or-set_same, get_or-set_other, take-set-le}
@@ -104,23 +107,26 @@ module _ (arcs : Table) (near : List ℕ) (n s : ℕ) (few : n < 1024) (size : l
 
 -- ---- a used row listed, and chained where all before it are
 
-module _ (near last : List ℕ) (n c x s r : ℕ) (few : n < 1024) (size : length near ≡ 2176) (h : ((c ≡ n → ⊥) → (r ≡ c) × (last ≡ set near n x)) × (c ≡ n → (r ≡ n + 1) × (last ≡ chained_at (set near n x) n s))) where
-  pub used-listed : take (n + 1) last ≡ take n near ++ (x ∷ [])
+module _ (near : List ℕ) (n c x s : ℕ) (few : n < 1024) (size : length near ≡ 2176) where
+  abbrev listed : List ℕ
+  listed = set near n x
+
+  abbrev after-it : List ℕ
+  after-it = cond (eqb c n) (chained_at listed n s) listed
+
+  pub used-listed : take (n + 1) after-it ≡ take n near ++ (x ∷ [])
   used-listed = go (ℕ_discrete c n) ∙ one_written near n x (omega (arith, size))
     where
-      put : List ℕ
-      put = set near n x
+      go : Dec (c ≡ n) → take (n + 1) after-it ≡ take (n + 1) listed
+      go (yes e) = rw (eq-eqb c n e) (take-set-le (n + 1) (set listed (1024 + n) (get_or listed (2048 + s % 128) 0)) (2048 + s % 128) (n + 1) (omega arith) ∙ take-set-le (n + 1) listed (1024 + n) (get_or listed (2048 + s % 128) 0) (omega arith))
+      go (no ne) = rw (ne_eqb c n ne)
 
-      go : Dec (c ≡ n) → take (n + 1) last ≡ take (n + 1) put
-      go (yes e) = ap (take (n + 1)) (h.1 e).1 ∙ take-set-le (n + 1) (set put (1024 + n) (get_or put (2048 + s % 128) 0)) (2048 + s % 128) (n + 1) (omega arith) ∙ take-set-le (n + 1) put (1024 + n) (get_or put (2048 + s % 128) 0) (omega arith)
-      go (no ne) = ap (take (n + 1)) (h.0 ne).1
-
-  pub used-chained : (arcs : Table) → cell arcs x 0 ≡ s → (s ≡ 0 → ⊥) → c ≤ n → Chained arcs near c → (r ≤ n + 1) × Chained arcs last r
+  pub used-chained : (arcs : Table) → cell arcs x 0 ≡ s → (s ≡ 0 → ⊥) → c ≤ n → Chained arcs near c → (cond (eqb c n) (n + 1) c ≤ n + 1) × Chained arcs after-it (cond (eqb c n) (n + 1) c)
   used-chained arcs es ns le k = go (ℕ_discrete c n)
     where
-      here : get_or (set near n x) n 0 ≡ x
+      here : get_or listed n 0 ≡ x
       here = get_or-set_same near n x 0 (omega (arith, size))
 
-      go : Dec (c ≡ n) → (r ≤ n + 1) × Chained arcs last r
-      go (yes e) = (omega (arith, (h.1 e).0), rw ((h.1 e).0, (h.1 e).1) (chained_more arcs (set near n x) n s few (length-set near n x ∙ size) (sym es ∙ ap (λ (y : ℕ). cell arcs y 0) (sym here)) ns (chained-put arcs near n n x few (le_refl n) (subst (Chained arcs near) e k))))
-      go (no ne) = (omega (arith, (h.0 ne).0), rw ((h.0 ne).0, (h.0 ne).1) (chained-put arcs near n c x few le k))
+      go : Dec (c ≡ n) → (cond (eqb c n) (n + 1) c ≤ n + 1) × Chained arcs after-it (cond (eqb c n) (n + 1) c)
+      go (yes e) = rw (eq-eqb c n e) (le_refl (n + 1), chained_more arcs listed n s few (length-set near n x ∙ size) (sym es ∙ ap (λ (y : ℕ). cell arcs y 0) (sym here)) ns (chained-put arcs near n n x few (le_refl n) (subst (Chained arcs near) e k)))
+      go (no ne) = rw (ne_eqb c n ne) (omega arith, chained-put arcs near n c x few le k)

@@ -4,7 +4,7 @@ use native.Mathlib.Nat.{le_refl}
 use native.Mathlib.Omega.{arith}
 use native.Mathlib.Decide.{ℕ_discrete, dec_lt}
 use mathlib.Core.Path.{◌≡◌, sym, ◌∙◌, subst}
-use mathlib.Core.Bool.{Bool, true}
+use mathlib.Core.Bool.{true}
 use mathlib.Core.List.{List}
 use lib.ListN.{length, get_or, take}
 use Rattle.rules.specs.Table.{Table, cell, has}
@@ -35,8 +35,8 @@ some-link t x u = go (ℕ_discrete x 0)
     go (yes z) = absurd (u (rw z))
     go (no nz) = omega arith
 
-pub near-stays : (t n : Table) (seen : List Bool) (near : List ℕ) (by : Nearby) → FilledUp t n → Near t seen near by → Near n seen near by
-near-stays t n seen near by f h one on e = (
+pub near-stays : (t n : Table) (by : Nearby) → FilledUp t n → Near t by → Near n by
+near-stays t n by f h one on e = (
   record {
     leaving = λ x l u m. from x u m (ℕ_discrete (cell t x 0) 0) (dec_lt x spare) l;
     free = λ x a l z. was.free x a l (sym (f.beyond x x a (omega (arith, f.rows)) z (le_refl x)) ∙ z);
@@ -46,22 +46,22 @@ near-stays t n seen near by f h one on e = (
         let is = was.rising.named k a (omega arith) in
         f.beyond x (get_or list j 0) is.0 is.1 z (was.rising.ordered k j a l b) ∙ was.ends k j a l b (sym (f.beyond x x is.0 is.1 z (le_refl x)) ∙ z);
   },
-  (start.1.0, chained-stays t n near by.chained f start.1.1),
+  (start.1.0, chained-stays t n by.links by.chained f start.1.1),
 )
   where
     list : List ℕ
-    list = take by.len near
+    list = take by.len by.links
 
     spare : ℕ
     spare = by.spare
 
-    start : Listing t seen list spare by.used × ((by.chained ≤ by.len) × Chained t near by.chained)
+    start : Listing t by.seen list spare by.used × ((by.chained ≤ by.len) × Chained t by.links by.chained)
     start = h one (omega (arith, f.rows)) (sym (f.beyond spare spare one (omega (arith, f.rows)) e (le_refl spare)) ∙ e)
 
-    was : Listing t seen list spare by.used
+    was : Listing t by.seen list spare by.used
     was = start.0
 
-    from : (x : ℕ) → (cell n x 0 ≡ 0 → ⊥) → is_marked seen (cell n x 0) ≡ true → Dec (cell t x 0 ≡ 0) → Dec (x < spare) → x ≤ length n → has list x ≡ true
-    from x u m (no v) d l = was.leaving x (omega (arith, f.rows)) v (subst (λ (s : ℕ). is_marked seen s ≡ true) (f.stays x v) m)
+    from : (x : ℕ) → (cell n x 0 ≡ 0 → ⊥) → is_marked by.seen (cell n x 0) ≡ true → Dec (cell t x 0 ≡ 0) → Dec (x < spare) → x ≤ length n → has list x ≡ true
+    from x u m (no v) d l = was.leaving x (omega (arith, f.rows)) v (subst (λ (s : ℕ). is_marked by.seen s ≡ true) (f.stays x v) m)
     from x u m (yes z) (yes q) l = was.free x (some-link n x u) (omega arith) z
     from x u m (yes z) (no q) l = absurd (u (f.beyond spare x one (omega (arith, f.rows)) e (omega arith) ∙ z))

@@ -1,43 +1,26 @@
 -- One pass lists the arcs near an edit: what stands in the list after so many rows, row by row, and at its end.
-use Prim.Native.Nat.{ℕ, ◌+◌, ◌-◌, ◌%◌, ◌≤◌, ◌<◌}
-use native.Mathlib.Nat.{not-suc-le-zero}
+use Prim.Native.Nat.{ℕ, ◌+◌, ◌-◌, ◌≤◌, ◌<◌}
+use native.Mathlib.Nat.{le_refl, not-suc-le-zero}
 use native.Mathlib.Omega.{arith}
 use native.Mathlib.Decide.{ℕ_discrete}
 use borrow.Author.Count.{below_none, below_more}
 use borrow.Author.Tests.{eq-eqb, ne_eqb}
-use mathlib.Core.Path.{◌≡◌, ap, sym, ◌∙◌, subst}
+use mathlib.Core.Path.{◌≡◌, refl, ap, sym, ◌∙◌, subst}
 use mathlib.Core.Bool.{Bool, true, false, cond}
 use mathlib.Core.List.{List, [], ◌∷◌, ◌++◌}
-use lib.ListN.{length, get_or, set, take, length-append, get_or-append}
-use lib.Seq.{get_or-set_same, get_or-set_other}
+use lib.Dec.{eqb}
+use lib.ListN.{length, get_or, set, take, length-take, length-append, get_or-append}
+use lib.Seq.{take-set-le}
 use Rattle.rules.specs.Table.{Table, cell, has, unused, or_else}
 use Rattle.tables.proofs.Runs.{over-run}
-use Rattle.pairs.specs.Pairs.{mark_count, NoMarks}
-use Rattle.pairs.specs.Near.{is_marked, Rising, Near, Passable, Onward, ListedTo, Chained}
+use Rattle.pairs.specs.Near.{is_marked, Rising, Listing, Near, Passable, Onward, ListedTo, Met, chained_at}
 use Rattle.pairs.specs.declared.near.Nearby.{Nearby}
 use Rattle.pairs.proofs.Filled.{some-link}
-use Rattle.pairs.proofs.Has.{has_last, has_left, at_place}
+use Rattle.pairs.proofs.Has.{has_last, has_left, at_place, one_written}
+use Rattle.pairs.proofs.Chains.{used-listed, used-chained, chained-put}
 
 pub both : true ≡ false → ⊥
 both e = let z : ◌≡◌ {A = ℕ} 0 1 = ap (λ (b : Bool). cond b 0 1) e in omega arith
-
--- ---- rows passed by
-
--- with a mark for none too, a row without a mark has none in the marks either, and is used
-none-marked : (seen : List Bool) (s : ℕ) → 0 < length seen → is_marked (set seen 0 true) s ≡ false → (is_marked seen s ≡ false) × (s % mark_count ≡ 0 → ⊥)
-none-marked seen s some h = (sym (get_or-set_other seen 0 (s % mark_count) true false other) ∙ h, other)
-  where
-    other : s % mark_count ≡ 0 → ⊥
-    other z = both (sym (get_or-set_same seen 0 true false some) ∙ ap (λ (p : ℕ). get_or (set seen 0 true) p false) (sym z) ∙ h)
-
-module _ (arcs : Table) (seen : List Bool) (left i r : ℕ) where
-  pub onward-last : left ≡ 0 → NoMarks arcs seen i r → (j : ℕ) → i ≤ j → j < r → Passable seen left (get_or (get_or arcs j []) 0 0)
-  onward-last z h j a b = (λ u. h j a b, λ nz. absurd (nz z))
-
-  pub onward-more : (marks : List Bool) → 0 < length seen → marks ≡ set seen 0 true → NoMarks arcs marks i r → (j : ℕ) → i ≤ j → j < r → Passable seen left (get_or (get_or arcs j []) 0 0)
-  onward-more marks some em h j a b =
-      let no = none-marked seen (get_or (get_or arcs j []) 0 0) some (rw (← em) (h j a b)) in
-      (λ u. no.0, λ nz z. no.1 (rw z))
 
 -- ---- places from which on only unused rows are listed
 
@@ -129,12 +112,9 @@ module _ (arcs : Table) (seen : List Bool) where
   pub listed-run : (list : List ℕ) (i r spare first left used : ℕ) → Onward arcs seen left i r → ListedTo arcs seen list i spare first left used → ListedTo arcs seen list r spare first left used
   listed-run list i r spare first left used o = over-run (λ (j : ℕ). ListedTo arcs seen list j spare first left used) i r o.0 (λ j a b h. listed-skip list j spare first left used h (o.1.1 j a b))
 
-  pub listed-end : (near : List ℕ) (by : Nearby) (i left : ℕ) → i ≤ length arcs → length arcs ≤ i → ListedTo arcs seen (take by.len near) i by.spare by.first left by.used → by.chained ≤ by.len → Chained arcs near by.chained → Near arcs seen near by
-  listed-end near by i left most all h few chained one on e = (record { leaving = leaving; free = free; rising = rising-later list by.used i (length arcs) most h.rising; ends = λ k j a b c z. h.taken_none j (omega arith) c }, (few, chained))
+  listed-end : (list : List ℕ) (i spare first left used : ℕ) → i ≤ length arcs → length arcs ≤ i → ListedTo arcs seen list i spare first left used → Listing arcs seen list spare used
+  listed-end list i spare first left used most all h = record { leaving = leaving; free = free; rising = rising-later list used i (length arcs) most h.rising; ends = λ k j a b c z. h.taken_none j (omega arith) c }
     where
-      list : List ℕ
-      list = take by.len near
-
       back : (x : ℕ) → 1 ≤ x → has list (x - 1 + 1) ≡ true → has list x ≡ true
       back x l q = let w : x - 1 + 1 ≡ x = omega arith in rw w at q
 
@@ -143,5 +123,52 @@ module _ (arcs : Table) (seen : List Bool) where
           let s = some-link arcs x u in
           back x s (h.leaving (x - 1) (omega (arith, s)) (λ z. u (named x s ∙ z)) (subst (λ (v : ℕ). is_marked seen v ≡ true) (named x s) m))
 
-      free : (x : ℕ) → 1 ≤ x → x ≤ by.spare → cell arcs x 0 ≡ 0 → has list x ≡ true
+      free : (x : ℕ) → 1 ≤ x → x ≤ spare → cell arcs x 0 ≡ 0 → has list x ≡ true
       free x s l z = back x s (h.free (x - 1) (omega (arith, h.reached)) (λ e. omega arith) (sym (named x s) ∙ z))
+
+-- ---- what an edit knows, row by row
+
+module _ (arcs : Table) (by : Nearby) (i left : ℕ) (h : Met arcs by i left) where
+  abbrev s : ℕ
+  s = get_or (get_or arcs i []) 0 0
+
+  abbrev put : List ℕ
+  put = set by.links by.len (i + 1)
+
+  module _ (few : by.len < 1024) where
+    pub met-used : length by.links ≡ 2176 → (s ≡ 0 → ⊥) → Met arcs (record {
+      seen = by.seen;
+      links = cond (eqb by.chained by.len) (chained_at put by.len s) put;
+      len = by.len + 1;
+      spare = by.spare;
+      first = by.first;
+      used = by.len + 1;
+      chained = cond (eqb by.chained by.len) (by.len + 1) by.chained;
+    }) (i + 1) left
+    met-used size used =
+        let kept = used-chained by.links by.len by.chained (i + 1) s few size arcs (row-source arcs by.seen i) used h.most h.chained in
+        record {
+          listed = rw (used-listed by.links by.len by.chained (i + 1) s few size) (listed-used arcs by.seen (take by.len by.links) i by.spare by.first left by.used h.listed used by.len (omega (arith, length-take by.len by.links)));
+          most = kept.0;
+          chained = kept.1;
+        }
+
+    pub met-skip : s ≡ 0 → left ≡ 0 → Met arcs (record { seen = by.seen; links = put; len = by.len; spare = by.spare; first = by.first; used = by.used; chained = by.chained }) (i + 1) 0
+    met-skip z e = rw (sym e) (record {
+      listed = rw (take-set-le by.len by.links by.len (i + 1) (le_refl by.len)) (listed-skip arcs by.seen (take by.len by.links) i by.spare by.first left by.used h.listed (λ u. absurd (u z), λ nz. absurd (nz e)));
+      most = h.most;
+      chained = chained-put arcs by.links by.len by.chained (i + 1) few h.most h.chained;
+    })
+
+    pub met-unused : length by.links ≡ 2176 → s ≡ 0 → (left ≡ 0 → ⊥) → (f : ℕ) → f ≡ or_else by.first (i + 1) → Met arcs (record { seen = by.seen; links = put; len = by.len + 1; spare = i + 1; first = f; used = by.used; chained = by.chained }) (i + 1) (left - 1)
+    met-unused size z nz f ef = record {
+      listed = rw (one_written by.links by.len (i + 1) (omega (arith, size))) (listed-unused arcs by.seen (take by.len by.links) i by.spare by.first left by.used h.listed z nz (i + 1) f refl ef);
+      most = omega (arith, h.most);
+      chained = chained-put arcs by.links by.len by.chained (i + 1) few h.most h.chained;
+    }
+
+  pub met-run : (r : ℕ) → Onward arcs by.seen left i r → Met arcs by r left
+  met-run r o = record { listed = listed-run arcs by.seen (take by.len by.links) i r by.spare by.first left by.used o h.listed; most = h.most; chained = h.chained }
+
+  pub met-end : i ≤ length arcs → length arcs ≤ i → Near arcs by
+  met-end most all one on e = (listed-end arcs by.seen (take by.len by.links) i by.spare by.first left by.used most all h.listed, (h.most, h.chained))

@@ -7,7 +7,7 @@ use native.Mathlib.Decide.{ℕ_discrete, dec_lt}
 use borrow.Author.Count.{below_none, below_more}
 use borrow.Author.Tests.{eq-eqb, ne_eqb, lt-ltb, le-ltb}
 use mathlib.Core.Path.{◌≡◌, refl, ap, sym, ◌∙◌, subst}
-use mathlib.Core.Bool.{Bool, true, false, cond, ◌&&◌, ◌||◌}
+use mathlib.Core.Bool.{Bool, true, false, cond, ◌&&◌}
 use mathlib.Core.List.{List, [], ◌∷◌, ◌++◌}
 use lib.ListN.{length, get_or, set, take, replicate, length-take, length-set, length-replicate, get_or-eq_default}
 use lib.Seq.{get_or-set_same, get_or-set_other, get_or-take, take-take}
@@ -20,7 +20,6 @@ use Rattle.lists.proofs.Laws.{after_on}
 use Rattle.pairs.specs.Pairs.{arcs_of, runs_at}
 use Rattle.pairs.specs.Near.{is_marked, Listing, Ends, AllFrom, leads, Least, Sought, lower_link, LinkNoted, source_at, LastLike}
 use Rattle.pairs.proofs.Filled.{some-link}
-use Rattle.pairs.proofs.Below.{or_left, or_right}
 use Rattle.pairs.proofs.Has.{has_last, has_left, has-before, has-read, has-found, has-early}
 use Rattle.pairs.proofs.Listing.{both}
 use Rattle.pairs.proofs.Steps.{item-is}
@@ -192,28 +191,6 @@ module _ (f t : List ℕ) (s d x : ℕ) (at₀ : List ℕ) where
     noted-leads es nd = noted-next (rw (eq-eqb s (get_or f i 0) es, ne_eqb d (get_or t i 0) nd))
 
 -- ---- all pairs
-
--- none of four
-pub of_none : (f : List ℕ) (s : ℕ) → (eqb s (get_or f 0 0) || eqb s (get_or f 1 0) || eqb s (get_or f 2 0) || eqb s (get_or f 3 0)) ≡ false → (i : ℕ) → i < 4 → s ≡ get_or f i 0 → ⊥
-of_none f s h i q e = go (ℕ_discrete i 0) (ℕ_discrete i 1) (ℕ_discrete i 2)
-  where
-    is : ℕ → Bool
-    is k = eqb s (get_or f k 0)
-
-    three : (is 0 || is 1 || is 2) ≡ false
-    three = or_left (is 0 || is 1 || is 2) (is 3) h
-
-    two : (is 0 || is 1) ≡ false
-    two = or_left (is 0 || is 1) (is 2) three
-
-    differs : (k : ℕ) → i ≡ k → is k ≡ false → ⊥
-    differs k ik un = both (sym (eq-eqb s (get_or f k 0) (e ∙ ap (λ (j : ℕ). get_or f j 0) ik)) ∙ un)
-
-    go : Dec (i ≡ 0) → Dec (i ≡ 1) → Dec (i ≡ 2) → ⊥
-    go (yes z) b c = differs 0 z (or_left (is 0) (is 1) two)
-    go (no a) (yes z) c = differs 1 z (or_right (is 0) (is 1) two)
-    go (no a) (no b) (yes z) = differs 2 z (or_right (is 0 || is 1) (is 2) three)
-    go (no a) (no b) (no c) = differs 3 (omega arith) (or_right (is 0 || is 1 || is 2) (is 3) h)
 
 -- where they lead, by the array that holds the perimeter
 pub ends-are : (per : Links) (n : ℕ) (t : List ℕ) → n ≡ length (list_of per) → ((j : ℕ) → j < n → get_or t j 0 ≡ get_or per.at (after n j) 0) → (i : ℕ) → i < length (list_of per) → get_or t i 0 ≡ to (list_of per) i

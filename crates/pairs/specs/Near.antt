@@ -2,7 +2,7 @@
 -- the edit's new arcs take. The list stays true as arcs are made, as long as its last unused row, the spare one, is unused.
 use Rattle.std.specs.Prelude.{ℕ, ◌+◌, ◌-◌, ◌%◌, ◌≤◌, ◌<◌, ◌≡◌, Bool, true, false, ◌&&◌, cond, List, [], length, get_or, set, take, eqb, ltb}
 use Rattle.rules.specs.Table.{Table, cell, has, unused, row_limit}
-use Rattle.pairs.specs.Pairs.{mark_count, runs_at}
+use Rattle.pairs.specs.Pairs.{mark_count, marked_at, runs_at}
 use Rattle.pairs.specs.declared.near.Nearby.{Nearby}
 
 -- a vertex has a mark
@@ -49,8 +49,12 @@ abbrev pub chained_at : List ℕ → ℕ → ℕ → List ℕ
 chained_at near n s = set (set near (1024 + n) (get_or near (2048 + s % 128) 0)) (2048 + s % 128) (n + 1)
 
 -- that is so if there is a spare row and it is still unused
-abbrev pub Near : Table → List Bool → List ℕ → Nearby → Type 0
-Near arcs seen near by = 1 ≤ by.spare → by.spare ≤ length arcs → cell arcs by.spare 0 ≡ 0 → Listing arcs seen (take by.len near) by.spare by.used × ((by.chained ≤ by.len) × Chained arcs near by.chained)
+abbrev pub Near : Table → Nearby → Type 0
+Near arcs by = 1 ≤ by.spare → by.spare ≤ length arcs → cell arcs by.spare 0 ≡ 0 → Listing arcs by.seen (take by.len by.links) by.spare by.used × ((by.chained ≤ by.len) × Chained arcs by.links by.chained)
+
+-- marks at the vertices of a list
+abbrev pub marking : Nearby → List ℕ → Nearby
+marking by l = record { seen = marked_at by.seen l; links = by.links; len = by.len; spare = by.spare; first = by.first; used = by.used; chained = by.chained }
 
 -- n is t with unused rows taken from the lowest on: a used row keeps its first cell, and from a row on that is still unused so does every row
 pub record FilledUp (t n : Table) : Type 0 where
@@ -59,6 +63,18 @@ pub record FilledUp (t n : Table) : Type 0 where
   pub beyond : (s x : ℕ) → 1 ≤ s → s ≤ length t → cell n s 0 ≡ 0 → s ≤ x → cell n x 0 ≡ cell t x 0
 
 -- ---- the pass that lists them
+
+-- place n, of a row that leaves s, chained where all before it are
+abbrev pub chaining : Nearby → ℕ → ℕ → Nearby
+chaining by n s = record {
+  seen = by.seen;
+  links = cond (eqb by.chained n) (chained_at by.links n s) by.links;
+  len = by.len;
+  spare = by.spare;
+  first = by.first;
+  used = by.used;
+  chained = cond (eqb by.chained n) (n + 1) by.chained;
+}
 
 -- a row whose source is s may be passed by, with so many unused rows left to list
 abbrev pub Passable : List Bool → ℕ → ℕ → Type 0
@@ -79,15 +95,25 @@ pub record ListedTo (arcs : Table) (seen : List Bool) (list : List ℕ) (i spare
   pub rising : Rising list used i
   pub taken_none : (k : ℕ) → used ≤ k → k < length list → cell arcs (get_or list k 0) 0 ≡ 0
 
+-- so it is of what an edit knows, and the first links are chained
+pub record Met (arcs : Table) (by : Nearby) (i left : ℕ) : Type 0 where
+  pub listed : ListedTo arcs by.seen (take by.len by.links) i by.spare by.first left by.used
+  pub most : by.chained ≤ by.len
+  pub chained : Chained arcs by.links by.chained
+
 -- ---- the lookup
 
--- the list tells where its spare row is there and unused
-pub record Tells (arcs : Table) (len spare : ℕ) : Type 0 where
-  pub some : 1 ≤ spare
-  pub within : spare ≤ length arcs
-  pub free : cell arcs spare 0 ≡ 0
+-- the list tells: what stands in it is so, in a table that has links to give
+pub record Telling (arcs : Table) (by : Nearby) : Type 0 where
   pub fits : length arcs ≤ row_limit
-  pub few : len ≤ 1024
+  pub few : by.len ≤ 1024
+  pub listing : Listing arcs by.seen (take by.len by.links) by.spare by.used
+  pub most : by.chained ≤ by.len
+  pub chained : Chained arcs by.links by.chained
+
+-- every vertex of a list has a mark
+abbrev pub AllMarked : List Bool → List ℕ → Type 0
+AllMarked seen l = (i : ℕ) → i < length l → is_marked seen (get_or l i 0) ≡ true
 
 -- every arc that leaves a is listed
 abbrev pub AllFrom : Table → List ℕ → ℕ → Type 0

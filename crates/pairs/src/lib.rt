@@ -13,9 +13,7 @@ ghost use Rattle.rules.specs.Mesh.{links_of, list_of};
 ghost use Rattle.pairs.specs.Pairs.{arcs_of, marks_of, noted, same_two, met_before};
 
 use rules::{ArcRow, Links, RING};
-
-// The largest table that has links to give.
-const ROW_LIMIT: usize = 16384;
+use tables::rows::ROW_LIMIT;
 
 // How many remainders are told apart: as many as there are vertices.
 pub const MARKS: usize = 4096;
@@ -33,10 +31,7 @@ fn marks(list: Links) -> [bool; MARKS]
 pub fn or_else(x: u32, other: u32) -> u32
     ensures { result ≡ or_else x other }
 {
-    if x == 0 {
-        return other;
-    }
-    x
+    if x == 0 { other } else { x }
 }
 
 // Whether pair i leads to d.
@@ -44,8 +39,7 @@ fn leads_to(per: Links, i: usize, d: u32) -> bool
     requires { i < length (list_of per) }
     ensures { result ≡ eqb d (get_or (list_of per) (after (length (list_of per)) i) 0) }
 {
-    let n = lists::size(per);
-    d == lists::item(per, lists::place_after(n, i))
+    d == lists::item(per, lists::place_after(lists::size(per), i))
 }
 
 // The arc x from s to d noted at its pairs, where none was noted before. None leads from none.
@@ -55,17 +49,10 @@ fn note(at: &mut [u32; RING], per: Links, s: u32, d: u32, x: u32)
     if s == 0 {
         return;
     }
-    let n = lists::size(per);
-    lists::known_few(per);
-    let from = per.at;
-    let mut i: usize = 0;
-    while i < n {
-        if s == from[i] {
-            if leads_to(per, i, d) {
-                at[i] = or_else(at[i], x);
-            }
+    for i in 0..per.len.min(RING) {
+        if s == per.at[i] && leads_to(per, i, d) {
+            at[i] = or_else(at[i], x);
         }
-        i += 1;
     }
 }
 
@@ -73,11 +60,10 @@ fn note(at: &mut [u32; RING], per: Links, s: u32, d: u32, x: u32)
 pub fn perimeter_arcs(arcs: &[ArcRow], per: Links) -> Links
     ensures { result ≡ links_of (arcs_of arcs.now (list_of per)) }
 {
-    let n = lists::size(per);
-    lists::known_few(per);
+    let len = lists::size(per);
     let mut at = [0u32; RING];
     if arcs.len() > ROW_LIMIT {
-        return Links { at, len: n };
+        return Links { at, len };
     }
     let seen = marks(per);
     let mut i = marked::skip(arcs, &seen, 0);
@@ -85,43 +71,27 @@ pub fn perimeter_arcs(arcs: &[ArcRow], per: Links) -> Links
         note(&mut at, per, arcs[i][0], arcs[i][1], i as u32 + 1);
         i = marked::skip(arcs, &seen, i + 1);
     }
-    Links { at, len: n }
+    Links { at, len }
 }
 
 // Whether s and d are a and b, in either order.
 fn same_two(s: u32, d: u32, a: u32, b: u32) -> bool
     ensures { result ≡ same_two s d a b }
 {
-    if s == a {
-        if d == b {
-            return true;
-        }
-    }
-    if d != a {
-        return false;
-    }
-    s == b
+    (s == a) & (d == b) | (d == a) & (s == b)
 }
-
-// Says only how many places a list has.
-fn known_places(at: [u32; RING])
-    ensures { length at ≡ 64 }
-{}
 
 // Whether a pair before i joins the same two vertices as pair i, where these are n vertices of a perimeter.
 pub fn met_before(at: &[u32; RING], n: usize, i: usize) -> bool
     requires { (n ≤ 64) × (i < n) }
     ensures { result ≡ met_before (take n at.now) i i }
 {
-    known_places(*at);
     let a = at[i];
     let b = at[lists::place_after(n, i)];
-    let mut j: usize = 0;
-    while j < i {
+    for j in 0..i {
         if same_two(at[j], at[j + 1], a, b) {
             return true;
         }
-        j += 1;
     }
     false
 }

@@ -3,15 +3,15 @@
 // them, so the list stays true while its last unused row, the spare one, is unused. Where the list does not tell, a lookup goes over the table.
 // Arcs that were there when they were listed are looked up by chains, the others by a pass that ends at the first row not taken yet.
 
-ghost use Rattle.std.specs.Prelude.{◌≡◌, Bool, true, false, List, ◌∷◌, ◌++◌, [], ℕ, ◌+◌, ◌<◌, ◌≤◌, length, get_or, set, take};
+ghost use Rattle.std.specs.Prelude.{◌≡◌, Bool, true, false, List, ◌∷◌, ◌++◌, [], ℕ, ◌+◌, ◌<◌, ◌≤◌, length, get_or, set, take, replicate};
 ghost use Rattle.rules.specs.Table.{cell, unused, after};
 ghost use Rattle.rules.specs.Mesh.{links_of, list_of, arc_between};
 ghost use Rattle.pairs.specs.Pairs.{arcs_of, marked_at};
-ghost use Rattle.pairs.specs.Near.{is_marked, Near, Onward, ListedTo, Tells, Ends, AllFrom, Least, Sought, lower_link, LinkNoted, Chained, chained_at};
+ghost use Rattle.pairs.specs.Near.{is_marked, AllMarked, Near, Telling, Onward, Met, Least, Sought, lower_link, LinkNoted, Chained, marking, chaining};
 
-use crate::{MARKS, ROW_LIMIT, marked};
+use crate::{MARKS, marked};
 use rules::{ArcRow, Links, RING};
-use tables::rows;
+use tables::rows::{self, ROW_LIMIT};
 
 // How many links a list holds.
 const LISTED: usize = 1024;
@@ -19,55 +19,29 @@ const LISTED: usize = 1024;
 // How many remainders of sources are told apart in a list.
 const CHAINS: usize = 128;
 
-// A list holds its links, then for each the place of the last one before it whose row has a source of the same remainder, and then for each
-// remainder the last place of all. Places are counted from 1, and 0 is none.
+// The links are followed, for each of them, by the place of the last one before it whose row has a source of the same remainder, and then by the last
+// place of all for each remainder. Places are counted from 1, and 0 is none.
 pub const NEAR: usize = 2176;
 
-// How many links are listed, the last unused row among them, the lowest unused row, how many links are listed up to the last used row, and how many
-// from the start on are chained; all 0 where the list tells nothing.
-#[derive(Clone, Copy)]
+// The vertices that have a mark, and the links of the arcs that leave one.
+// Kept: no heap and fixed memory: the links, their number and their chains lie in one array, and 0 is none there as in a table's cell.
+#[derive(Drop)]
 pub struct Nearby {
-    pub len: usize,
-    pub spare: u32,
-    pub first: u32,
-    pub used: usize,
-    pub chained: usize,
+    pub seen: [bool; MARKS],
+    pub links: [u32; NEAR],
+    pub len: usize, // how many links are listed
+    pub spare: u32, // the last unused row among them; 0 where the list tells nothing
+    pub first: u32, // the lowest unused row
+    pub used: usize, // how many links are listed up to the last used row
+    pub chained: usize, // how many from the start on are chained
 }
-
-// What Nearby holds, during the pass, and how many unused rows are left to list.
-#[derive(Clone, Copy)]
-struct Met {
-    len: usize,
-    spare: u32,
-    first: u32,
-    used: usize,
-    chained: usize,
-    left: usize,
-}
-
-// They say only how many places there are.
-fn known_near(near: [u32; NEAR])
-    ensures { length near ≡ 2176 }
-{}
-
-fn known_marks(seen: [bool; MARKS])
-    ensures { length seen ≡ 4096 }
-{}
-
-// ---- the pass that lists them
 
 // Marks at the vertices of a list.
 pub fn mark(seen: &mut [bool; MARKS], list: Links)
     ensures { seen.new ≡ marked_at seen.old (list_of list) }
 {
-    let n = lists::size(list);
-    lists::known_few(list);
-    let at = list.at;
-    let mut i: usize = 0;
-    while i < n {
-        let place = rows::wide(at[i]) % MARKS;
-        seen[place] = true;
-        i += 1;
+    for i in 0..list.len.min(RING) {
+        seen[rows::wide(list.at[i]) % MARKS] = true;
     }
 }
 
@@ -89,175 +63,18 @@ fn onward(
 }
 
 // No link is chained.
-fn no_chains(near: &mut [u32; NEAR])
-    ensures { (k : ℕ) → 2048 ≤ k → k < 2176 → get_or near.new k 0 ≡ 0 }
+fn no_chains(links: &mut [u32; NEAR])
+    ensures { (k : ℕ) → 2048 ≤ k → k < 2176 → get_or links.new k 0 ≡ 0 }
 {
-    known_near(*near);
-    let mut k: usize = 2 * LISTED;
-    while k < NEAR {
-        near[k] = 0;
-        k += 1;
-    }
-}
-
-// The link at place n, of a row that leaves s, chained where all before it are: how many are chained then.
-fn chain(near: &mut [u32; NEAR], s: u32, n: usize, chained: usize) -> usize
-    requires { n < 1024 }
-    ensures { ((chained ≡ n → ⊥) → (result ≡ chained) × (near.new ≡ near.old))
-        × (chained ≡ n → (result ≡ n + 1) × (near.new ≡ chained_at near.old n s)) }
-{
-    if chained != n {
-        return chained;
-    }
-    known_near(*near);
-    let last = 2 * LISTED + rows::wide(s) % CHAINS;
-    let before = near[last];
-    near[LISTED + n] = before;
-    near[last] = n as u32 + 1;
-    n + 1
-}
-
-// Row i listed, but an unused row only while such are left to list.
-fn meet(near: &mut [u32; NEAR], arcs: &[ArcRow], i: usize, m: Met) -> Met
-    requires { (i < length arcs.now) × ((length arcs.now ≤ 16384) × (m.len < 1024)) }
-    ensures { ((seen : List Bool) → ListedTo arcs.now seen (take m.len near.old) i m.spare m.first m.left m.used →
-        ListedTo arcs.now seen (take result.len near.new) (i + 1) result.spare result.first result.left result.used)
-        × (m.chained ≤ m.len → Chained arcs.now near.old m.chained → (result.chained ≤ result.len)
-        × Chained arcs.now near.new result.chained) }
-{
-    known_near(*near);
-    let x = i as u32 + 1;
-    let n = m.len;
-    near[n] = x;
-    if arcs[i][0] != 0 {
-        let chained = chain(near, arcs[i][0], n, m.chained);
-        return Met {
-            len: n + 1,
-            spare: m.spare,
-            first: m.first,
-            used: n + 1,
-            chained,
-            left: m.left,
-        };
-    }
-    let left = m.left;
-    if left == 0 {
-        return m;
-    }
-    Met {
-        len: n + 1,
-        spare: x,
-        first: crate::or_else(m.first, x),
-        used: m.used,
-        chained: m.chained,
-        left: left - 1,
-    }
-}
-
-// A list that tells nothing.
-fn nothing_listed() -> Nearby
-    ensures { (result.len ≡ 0) × ((result.spare ≡ 0) × ((result.first ≡ 0) × ((result.used ≡ 0) × (result.chained ≡ 0)))) }
-{
-    Nearby {
-        len: 0,
-        spare: 0,
-        first: 0,
-        used: 0,
-        chained: 0,
-    }
-}
-
-// Lists the arcs that leave a vertex with a mark, and unused rows from the lowest on, at most so many.
-pub fn list_near(
-    near: &mut [u32; NEAR],
-    arcs: &[ArcRow],
-    seen: &[bool; MARKS],
-    rows: usize,
-) -> Nearby
-    ensures { Near arcs.now seen.now near.new result
-        × ((k : ℕ) → k + 1 < result.first → unused (get_or arcs.now k []) ≡ false) }
-{
-    if arcs.len() > ROW_LIMIT {
-        return nothing_listed();
-    }
-    known_marks(*seen);
-    let mut marks = *seen;
-    marks[0] = true;
-    let mut m = Met {
-        len: 0,
-        spare: 0,
-        first: 0,
-        used: 0,
-        chained: 0,
-        left: rows,
-    };
-    no_chains(near);
-    let mut i = onward(arcs, seen, &marks, rows, 0);
-    while i < arcs.len() {
-        if m.len >= LISTED {
-            return nothing_listed();
-        }
-        m = meet(near, arcs, i, m);
-        i = onward(arcs, seen, &marks, m.left, i + 1);
-    }
-    Nearby {
-        len: m.len,
-        spare: m.spare,
-        first: m.first,
-        used: m.used,
-        chained: m.chained,
-    }
-}
-
-// ---- the lookup
-
-// Whether the list tells: its spare row is there and unused.
-fn tells(arcs: &[ArcRow], by: Nearby) -> bool
-    ensures { result ≡ true → Tells arcs.now by.len by.spare }
-{
-    if by.len > LISTED {
-        return false;
-    }
-    if arcs.len() > ROW_LIMIT {
-        return false;
-    }
-    if by.spare == 0 {
-        return false;
-    }
-    if rows::wide(by.spare) > arcs.len() {
-        return false;
-    }
-    rows::cell6(arcs, by.spare, 0) == 0
-}
-
-// Whether every vertex of a list has a mark.
-fn all_marked(seen: &[bool; MARKS], list: Links) -> bool
-    ensures { result ≡ true → (i : ℕ) → i < length (list_of list) → is_marked seen.now (get_or (list_of list) i 0) ≡ true }
-{
-    let n = lists::size(list);
-    lists::known_few(list);
-    let at = list.at;
-    let mut i: usize = 0;
-    while i < n {
-        if !seen[rows::wide(at[i]) % MARKS] {
-            return false;
-        }
-        i += 1;
-    }
-    true
+    links[2 * LISTED..].fill(0);
 }
 
 // The lesser of two links. 0 is none.
+// Kept: of links, where 0 is none, the lesser is not `min`.
 fn lower(m: u32, x: u32) -> u32
     ensures { result ≡ lower_link m x }
 {
-    if m == 0 {
-        return x;
-    }
-    if x < m {
-        return x;
-    }
-    m
+    if m == 0 || x < m { x } else { m }
 }
 
 // The lesser of two links, the second only where it names an arc from a to b.
@@ -265,90 +82,27 @@ fn lesser(arcs: &[ArcRow], a: u32, b: u32, m: u32, x: u32) -> u32
     requires { a ≡ 0 → ⊥ }
     ensures { (list : List ℕ) → Least arcs.now a b list m → Least arcs.now a b (list ++ (x ∷ [])) result }
 {
-    if rows::cell6(arcs, x, 0) != a {
-        return m;
+    if rows::cell(arcs, x, 0) == a && rows::cell(arcs, x, 1) == b {
+        lower(m, x)
+    } else {
+        m
     }
-    if rows::cell6(arcs, x, 1) != b {
-        return m;
-    }
-    lower(m, x)
-}
-
-// The arc from a to b among the n links that are chained.
-fn arc_chained(arcs: &[ArcRow], near: &[u32; NEAR], n: usize, a: u32, b: u32) -> u32
-    requires { (n ≤ 1024) × Chained arcs.now near.now n }
-    ensures { (a ≡ 0 → result ≡ 0) × ((a ≡ 0 → ⊥) → Least arcs.now a b (take n near.now) result) }
-{
-    if a == 0 {
-        return 0;
-    }
-    let mut m: u32 = 0;
-    let mut k = rows::wide(near[2 * LISTED + rows::wide(a) % CHAINS]);
-    while k != 0 {
-        m = lesser(arcs, a, b, m, near[k - 1]);
-        k = rows::wide(near[LISTED + (k - 1)]);
-    }
-    m
-}
-
-// Whether the lookup ends at place k, which names row x: it is unused, and only rows that new arcs take one after the other are listed from there on.
-fn ended(arcs: &[ArcRow], x: u32, used: usize, k: usize) -> bool
-    ensures { result ≡ true → (used ≤ k) × (cell arcs.now x 0 ≡ 0) }
-{
-    if k < used {
-        return false;
-    }
-    rows::cell6(arcs, x, 0) == 0
-}
-
-// The arc from a to b, by n listed links among which is every arc that leaves a: first those that are chained, then the others.
-fn arc_listed(
-    arcs: &[ArcRow],
-    near: &[u32; NEAR],
-    n: usize,
-    used: usize,
-    chained: usize,
-    a: u32,
-    b: u32,
-) -> u32
-    requires { (n ≤ 1024) × ((length arcs.now ≤ 16384)
-        × (((chained ≤ n) × Chained arcs.now near.now chained)
-        × (Ends arcs.now (take n near.now) used × AllFrom arcs.now (take n near.now) a))) }
-    ensures { result ≡ arc_between arcs.now a b }
-{
-    if a == 0 {
-        return 0;
-    }
-    let mut m = arc_chained(arcs, near, chained, a, b);
-    let mut k = chained;
-    while k < n {
-        let x = near[k];
-        if ended(arcs, x, used, k) {
-            return m;
-        }
-        m = lesser(arcs, a, b, m, x);
-        k += 1;
-    }
-    m
 }
 
 // The vertices that the pairs of a perimeter lead to.
 fn ends(per: Links) -> [u32; RING]
     ensures { (i : ℕ) → i < length (list_of per) → get_or result i 0 ≡ get_or (list_of per) (after (length (list_of per)) i) 0 }
 {
-    let n = lists::size(per);
-    lists::known_few(per);
-    let from = per.at;
+    let n = per.len.min(RING);
     let mut to = [0u32; RING];
-    let mut i: usize = 0;
-    while i < n {
-        to[i] = from[lists::place_after(n, i)];
-        i += 1;
+    for i in 0..n {
+        to[i] = per.at[lists::place_after(n, i)];
     }
     to
 }
 
 // The link x of an arc from s to d, noted at each of the n pairs that run so and have no lesser link. Pair i runs from from[i] to to[i].
+// Kept: two lists side by side with one length: pair i is a place of both, and a list of pairs would have to be made for each perimeter.
 fn note_listed(
     at: &mut [u32; RING],
     from: &[u32; RING],
@@ -361,36 +115,11 @@ fn note_listed(
     requires { n ≤ 64 }
     ensures { LinkNoted from.now to.now s d x at.old n at.new }
 {
-    let mut i: usize = 0;
-    while i < n {
-        if s == from[i] {
-            if d == to[i] {
-                at[i] = lower(at[i], x);
-            }
+    for i in 0..n {
+        if s == from[i] && d == to[i] {
+            at[i] = lower(at[i], x);
         }
-        i += 1;
     }
-}
-
-// The arcs of n pairs in order, by the first links, which are chained.
-fn arcs_chained(
-    arcs: &[ArcRow],
-    near: &[u32; NEAR],
-    chained: usize,
-    from: &[u32; RING],
-    to: &[u32; RING],
-    n: usize,
-) -> [u32; RING]
-    requires { (n ≤ 64) × ((chained ≤ 1024) × Chained arcs.now near.now chained) }
-    ensures { Sought arcs.now from.now to.now n (take chained near.now) result }
-{
-    let mut at = [0u32; RING];
-    let mut i: usize = 0;
-    while i < n {
-        at[i] = arc_chained(arcs, near, chained, from[i], to[i]);
-        i += 1;
-    }
-    at
 }
 
 // Whether s is one of the first four vertices.
@@ -400,123 +129,245 @@ fn of_four(from: &[u32; RING], s: u32) -> bool
     (s == from[0]) | (s == from[1]) | (s == from[2]) | (s == from[3])
 }
 
-// The arcs of all pairs in order, of four at most, by n listed links among which is every arc that leaves one of the vertices: first those that are
-// chained, then the others in one pass. Only an arc whose source is one of the vertices is compared with the pairs.
-fn few_listed(
-    arcs: &[ArcRow],
-    per: Links,
-    near: &[u32; NEAR],
-    n: usize,
-    used: usize,
-    chained: usize,
-) -> Links
-    requires n_bound { (n ≤ 1024) × ((length arcs.now ≤ 16384)
-        × (((chained ≤ n) × Chained arcs.now near.now chained)
-        × (Ends arcs.now (take n near.now) used
-        × ((i : ℕ) → i < length (list_of per) → AllFrom arcs.now (take n near.now) (get_or (list_of per) i 0))))) }
-    requires per_len_bound { length (list_of per) ≤ 4 }
-    ensures { result ≡ links_of (arcs_of arcs.now (list_of per)) }
-{
-    let size = lists::size(per);
-    let from = per.at;
-    let to = ends(per);
-    let mut at = arcs_chained(arcs, near, chained, &from, &to, size);
-    let mut k = chained;
-    while k < n {
-        let x = near[k];
-        let s = rows::cell6(arcs, x, 0);
-        if s == 0 {
-            if k >= used {
-                return Links { at, len: size };
-            }
-        } else {
-            if of_four(&from, s) {
-                note_listed(&mut at, &from, &to, size, s, rows::cell6(arcs, x, 1), x);
-            }
+impl Nearby {
+    // No mark, and no link.
+    pub fn new() -> Nearby
+        ensures { result ≡ record {
+          seen = replicate 4096 false;
+          links = replicate 2176 0;
+          len = 0;
+          spare = 0;
+          first = 0;
+          used = 0;
+          chained = 0;
+        } }
+    {
+        Nearby {
+            seen: [false; MARKS],
+            links: [0; NEAR],
+            len: 0,
+            spare: 0,
+            first: 0,
+            used: 0,
+            chained: 0,
         }
-        k += 1;
     }
-    Links { at, len: size }
-}
 
-// The listed arcs of any number of pairs. The vertices are marked first, and only an arc whose source has a mark is compared with the pairs.
-fn arcs_listed(
-    arcs: &[ArcRow],
-    per: Links,
-    near: &[u32; NEAR],
-    n: usize,
-    used: usize,
-    chained: usize,
-) -> Links
-    requires { (n ≤ 1024) × ((length arcs.now ≤ 16384)
-        × (((chained ≤ n) × Chained arcs.now near.now chained)
-        × (Ends arcs.now (take n near.now) used
-        × ((i : ℕ) → i < length (list_of per) → AllFrom arcs.now (take n near.now) (get_or (list_of per) i 0))))) }
-    ensures { result ≡ links_of (arcs_of arcs.now (list_of per)) }
-{
-    let size = lists::size(per);
-    lists::known_few(per);
-    let from = per.at;
-    let to = ends(per);
-    let mut seen = [false; MARKS];
-    mark(&mut seen, per);
-    let mut at = arcs_chained(arcs, near, chained, &from, &to, size);
-    let mut k = chained;
-    while k < n {
-        let x = near[k];
-        let s = rows::cell6(arcs, x, 0);
-        if s == 0 {
-            if k >= used {
-                return Links { at, len: size };
-            }
-        } else {
-            if seen[rows::wide(s) % MARKS] {
-                note_listed(&mut at, &from, &to, size, s, rows::cell6(arcs, x, 1), x);
-            }
-        }
-        k += 1;
+    // Marks at the vertices of a list.
+    pub fn mark(&mut self, list: Links)
+        ensures { self.new ≡ marking self.old (list_of list) }
+    {
+        mark(&mut self.seen, list);
     }
-    Links { at, len: size }
-}
 
-// The arcs of all pairs in order, 0 for none: by the list where it tells, else by a pass.
-pub fn perimeter_arcs_near(
-    arcs: &[ArcRow],
-    per: Links,
-    seen: &[bool; MARKS],
-    near: &[u32; NEAR],
-    by: Nearby,
-) -> Links
-    requires { Near arcs.now seen.now near.now by }
-    ensures { result ≡ links_of (arcs_of arcs.now (list_of per)) }
-{
-    if tells(arcs, by) {
-        if all_marked(seen, per) {
-            if lists::size(per) <= 4 {
-                return few_listed(arcs, per, near, by.len, by.used, by.chained);
-            }
-            return arcs_listed(arcs, per, near, by.len, by.used, by.chained);
-        }
-    }
-    crate::perimeter_arcs(arcs, per)
-}
+    // ---- the pass that lists them
 
-// The arc from a to b in the same way.
-pub fn arc_between_near(
-    arcs: &[ArcRow],
-    a: u32,
-    b: u32,
-    seen: &[bool; MARKS],
-    near: &[u32; NEAR],
-    by: Nearby,
-) -> u32
-    requires { Near arcs.now seen.now near.now by }
-    ensures { result ≡ arc_between arcs.now a b }
-{
-    if tells(arcs, by) {
-        if seen[rows::wide(a) % MARKS] {
-            return arc_listed(arcs, near, by.len, by.used, by.chained, a, b);
+    // The list tells nothing.
+    fn forget(&mut self)
+        ensures { (self.new.seen ≡ self.old.seen) × (self.new.links ≡ self.old.links)
+            × (self.new.len ≡ 0) × (self.new.spare ≡ 0) × (self.new.first ≡ 0) × (self.new.used ≡ 0) × (self.new.chained ≡ 0) }
+    {
+        self.len = 0;
+        self.spare = 0;
+        self.first = 0;
+        self.used = 0;
+        self.chained = 0;
+    }
+
+    // The link at place n, of a row that leaves s, chained where all before it are.
+    fn chain(&mut self, s: u32, n: usize)
+        requires { n < 1024 }
+        ensures { self.new ≡ chaining self.old n s }
+    {
+        if self.chained == n {
+            let last = 2 * LISTED + rows::wide(s) % CHAINS;
+            self.links[LISTED + n] = self.links[last];
+            self.links[last] = n as u32 + 1;
+            self.chained = n + 1;
         }
     }
-    rows::find_arc(arcs, a, b)
+
+    // Row i listed, but an unused row only while such are left to list: how many are left then.
+    fn meet(&mut self, arcs: &[ArcRow], i: usize, left: usize) -> usize
+        requires { (i < length arcs.now) × ((length arcs.now ≤ 16384) × (self.old.len < 1024)) }
+        ensures met { Met arcs.now self.old i left → Met arcs.now self.new (i + 1) result }
+        ensures seen { self.new.seen ≡ self.old.seen }
+    {
+        let x = i as u32 + 1;
+        let n = self.len;
+        self.links[n] = x;
+        if arcs[i][0] != 0 {
+            self.chain(arcs[i][0], n);
+            self.len = n + 1;
+            self.used = n + 1;
+            return left;
+        }
+        if left == 0 {
+            return 0;
+        }
+        self.len = n + 1;
+        self.spare = x;
+        self.first = crate::or_else(self.first, x);
+        left - 1
+    }
+
+    // Lists the arcs that leave a vertex with a mark, and unused rows from the lowest on, at most so many.
+    pub fn list(&mut self, arcs: &[ArcRow], rows: usize)
+        ensures near { Near arcs.now self.new }
+        ensures seen { self.new.seen ≡ self.old.seen }
+        ensures first { (k : ℕ) → k + 1 < self.new.first → unused (get_or arcs.now k []) ≡ false }
+    {
+        self.forget();
+        if arcs.len() > ROW_LIMIT {
+            return;
+        }
+        let mut marks = self.seen;
+        marks[0] = true;
+        no_chains(&mut self.links);
+        let mut left = rows;
+        let mut i = onward(arcs, &self.seen, &marks, left, 0);
+        while i < arcs.len() {
+            if self.len >= LISTED {
+                self.forget();
+                return;
+            }
+            left = self.meet(arcs, i, left);
+            i = onward(arcs, &self.seen, &marks, left, i + 1);
+        }
+    }
+
+    // ---- the lookup
+
+    // Whether the list tells: its spare row is there and unused.
+    fn tells(&self, arcs: &[ArcRow]) -> bool
+        ensures { result ≡ true → Near arcs.now self.now → Telling arcs.now self.now }
+    {
+        self.len <= LISTED
+            && arcs.len() <= ROW_LIMIT
+            && self.spare != 0
+            && rows::wide(self.spare) <= arcs.len()
+            && rows::cell(arcs, self.spare, 0) == 0
+    }
+
+    // Whether every vertex of a list has a mark.
+    fn all_marked(&self, list: Links) -> bool
+        ensures { result ≡ true → AllMarked self.now.seen (list_of list) }
+    {
+        list.at[..list.len.min(RING)]
+            .iter()
+            .all(|v| self.seen[rows::wide(*v) % MARKS])
+    }
+
+    // The arc from a to b among the links that are chained.
+    // Kept: it follows places from one to the one before, and is no index loop.
+    fn arc_chained(&self, arcs: &[ArcRow], a: u32, b: u32) -> u32
+        requires { (self.now.chained ≤ 1024) × Chained arcs.now self.now.links self.now.chained }
+        ensures { (a ≡ 0 → result ≡ 0) × ((a ≡ 0 → ⊥) → Least arcs.now a b (take self.now.chained self.now.links) result) }
+    {
+        if a == 0 {
+            return 0;
+        }
+        let mut m: u32 = 0;
+        let mut k = rows::wide(self.links[2 * LISTED + rows::wide(a) % CHAINS]);
+        while k != 0 {
+            m = lesser(arcs, a, b, m, self.links[k - 1]);
+            k = rows::wide(self.links[LISTED + (k - 1)]);
+        }
+        m
+    }
+
+    // Whether the lookup ends at place k: its row is unused, and only rows that new arcs take one after the other are listed from there on.
+    fn ended(&self, arcs: &[ArcRow], k: usize) -> bool
+        requires { k < 1024 }
+        ensures { result ≡ true → (self.now.used ≤ k) × (cell arcs.now (get_or self.now.links k 0) 0 ≡ 0) }
+    {
+        k >= self.used && rows::cell(arcs, self.links[k], 0) == 0
+    }
+
+    // The arc from a to b, where the list tells and a has a mark: first among the links that are chained, then among the others.
+    fn arc_listed(&self, arcs: &[ArcRow], a: u32, b: u32) -> u32
+        requires { Telling arcs.now self.now × (is_marked self.now.seen a ≡ true) }
+        ensures { result ≡ arc_between arcs.now a b }
+    {
+        if a == 0 {
+            return 0;
+        }
+        let mut m = self.arc_chained(arcs, a, b);
+        for k in self.chained..self.len {
+            if self.ended(arcs, k) {
+                return m;
+            }
+            m = lesser(arcs, a, b, m, self.links[k]);
+        }
+        m
+    }
+
+    // The arcs of n pairs in order, by the first links, which are chained. Pair i runs from from[i] to to[i].
+    fn arcs_chained(
+        &self,
+        arcs: &[ArcRow],
+        from: &[u32; RING],
+        to: &[u32; RING],
+        n: usize,
+    ) -> [u32; RING]
+        requires { (n ≤ 64) × ((self.now.chained ≤ 1024) × Chained arcs.now self.now.links self.now.chained) }
+        ensures { Sought arcs.now from.now to.now n (take self.now.chained self.now.links) result }
+    {
+        let mut at = [0u32; RING];
+        for i in 0..n {
+            at[i] = self.arc_chained(arcs, from[i], to[i]);
+        }
+        at
+    }
+
+    // The arcs of all pairs in order, where the list tells and all vertices have marks: first those that are chained, then the others in one pass.
+    // Only an arc whose source may be one of the vertices is compared with the pairs.
+    fn listed<F: Fn(u32) -> bool>(&self, arcs: &[ArcRow], per: Links, may_leave: F) -> Links
+        requires told { Telling arcs.now self.now × AllMarked self.now.seen (list_of per) }
+        requires calls { F.IsAlwaysCallable may_leave }
+        requires leaves { (i : ℕ) → i < length (list_of per) → F.post may_leave (get_or (list_of per) i 0) false → ⊥ }
+        ensures { result ≡ links_of (arcs_of arcs.now (list_of per)) }
+    {
+        let len = per.len.min(RING);
+        let to = ends(per);
+        let mut at = self.arcs_chained(arcs, &per.at, &to, len);
+        for k in self.chained..self.len {
+            let x = self.links[k];
+            let s = rows::cell(arcs, x, 0);
+            if s == 0 {
+                if k >= self.used {
+                    return Links { at, len };
+                }
+            } else if may_leave(s) {
+                note_listed(&mut at, &per.at, &to, len, s, rows::cell(arcs, x, 1), x);
+            }
+        }
+        Links { at, len }
+    }
+
+    // The arcs of all pairs in order, 0 for none: by the list where it tells, else by a pass.
+    pub fn perimeter_arcs(&self, arcs: &[ArcRow], per: Links) -> Links
+        requires { Near arcs.now self.now }
+        ensures { result ≡ links_of (arcs_of arcs.now (list_of per)) }
+    {
+        if !self.tells(arcs) || !self.all_marked(per) {
+            return crate::perimeter_arcs(arcs, per);
+        }
+        if lists::size(per) <= 4 {
+            return self.listed(arcs, per, |s| of_four(&per.at, s));
+        }
+        let seen = crate::marks(per);
+        self.listed(arcs, per, |s| seen[rows::wide(s) % MARKS])
+    }
+
+    // The arc from a to b in the same way.
+    pub fn arc_between(&self, arcs: &[ArcRow], a: u32, b: u32) -> u32
+        requires { Near arcs.now self.now }
+        ensures { result ≡ arc_between arcs.now a b }
+    {
+        if self.tells(arcs) && self.seen[rows::wide(a) % MARKS] {
+            return self.arc_listed(arcs, a, b);
+        }
+        rows::find_arc(arcs, a, b)
+    }
 }

@@ -11,7 +11,7 @@ use lib.Dec.{T}
 use lib.Ieee.{Float, nan, binary64, span, climb, size, odd, units, round, of_fields, of_bits, to_bits}
 use Rattle.rules.specs.declared.Edit.{Edit}
 use Rattle.rules.specs.declared.Call.{Call}
-use Rattle.rules.specs.declared.Answer.TheVariants.{Refused}
+use Rattle.rules.specs.Answer.{Refused}
 use Rattle.rules.specs.declared.Refusal.TheVariants.{Tables, WouldBreak}
 use Rattle.rules.specs.Table.{cell, every, there}
 use Rattle.rules.specs.Mesh.{Mesh, Room, vertex_limit, edge_limit, face_limit}

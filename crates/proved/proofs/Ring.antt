@@ -10,7 +10,7 @@ use lib.ListN.{length, get_or}
 use lib.Dec.{T, eqb, leb, eqb→eq, leb→le, le→leb}
 use lib.Ieee.Fits.{and_l, and_r, and_i}
 use borrow.Author.Tests.{ne_eqb}
-use Rattle.rules.specs.declared.Answer.TheVariants.{Arity}
+use Rattle.rules.specs.Answer.{Arity}
 use Rattle.rules.specs.Table.{there, used, has, distinct, every}
 use Rattle.rules.specs.Mesh.{Mesh, ring_limit, source, next, previous, face, face_arc, key_at, find_face}
 use Rattle.rules.specs.Link.{ring, ring_ended}

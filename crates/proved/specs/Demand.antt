@@ -6,7 +6,7 @@ use Rattle.rules.specs.declared.Position.{Position}
 use Rattle.rules.specs.declared.Move.{Move}
 use Rattle.rules.specs.declared.Edit.{Edit}
 use Rattle.rules.specs.declared.Edit.TheVariants.{VertexInsert, FaceInsert, FaceRemove, FaceSplit, FacePoke, FaceBridge, FaceExtrude, ArcBridge, ArcExtrude}
-use Rattle.rules.specs.declared.Answer.TheVariants.{Arity}
+use Rattle.rules.specs.Answer.{Arity}
 use Rattle.rules.specs.Table.{count, used, there, sum_below, times}
 use Rattle.rules.specs.Mesh.{Mesh, Room, next, previous, face, face_arc, key_at}
 use Rattle.rules.specs.Point.{position, zero_float}

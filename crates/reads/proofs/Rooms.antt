@@ -14,7 +14,7 @@ use Rattle.rules.specs.Call.{room_enough, zeroed}
 use Rattle.rules.specs.Script.{Text}
 use Rattle.proved.proofs.Rows.{true-T}
 use Rattle.file.specs.File.{sizes_serve, read_file}
-use Rattle.fills.specs.Fills.{tables_of}
+use Rattle.rules.specs.Lent.{tables_of}
 use Rattle.verdicts.specs.Verdicts.{SameSize, taken, taken_of}
 use Rattle.reads.specs.Reads.{Fits, file_read}
 

@@ -3,140 +3,95 @@
 
 ghost use mathlib.Core.Path.{◌≡◌};
 ghost use mathlib.Core.Bool.{true};
-ghost use mathlib.Core.List.{List};
-ghost use Prim.Native.Nat.{ℕ};
+ghost use Rattle.rules.specs.Mesh.{room};
+ghost use Rattle.rules.specs.Lent.{SameMesh, SameRoom, mesh_in, mesh_of, room_in, room_of, tables_of};
 ghost use Rattle.rules.specs.Sound.{within_limits};
 ghost use Rattle.rules.specs.Call.{zeroed};
 ghost use Rattle.file.specs.File.{sizes_serve, read_file};
 ghost use Rattle.verdicts.specs.Verdicts.{taken, taken_of};
+ghost use Rattle.verdicts.specs.Refusals.{number_of};
 ghost use Rattle.reads.specs.Reads.{Fits, file_read};
-ghost use Rattle.rules.specs.Mesh.{mesh, room};
 
-use rules::{ArcRow, EdgeRow, FaceRow, PositionRow, VertexRow};
+use rules::{ArcRow, EdgeRow, FaceRow, MeshMut, MeshRef, PositionRow, RoomMut, RoomRef, VertexRow};
 use tables::sets;
+use verdicts::refusals::ReadRefusal;
 use verdicts::settle;
 
 // 1: whether the tables are within the limits, and no table of a room is shorter.
-fn sizes_serve(
-    vertices: &[VertexRow],
-    positions: &[PositionRow],
-    arcs: &[ArcRow],
-    edges: &[EdgeRow],
-    faces: &[FaceRow],
-    v1: &[VertexRow],
-    p1: &[PositionRow],
-    a1: &[ArcRow],
-    e1: &[EdgeRow],
-    f1: &[FaceRow],
-    v2: &[VertexRow],
-    p2: &[PositionRow],
-    a2: &[ArcRow],
-    e2: &[EdgeRow],
-    f2: &[FaceRow],
-) -> bool
-    ensures { (k : List ℕ) →
-        result ≡ sizes_serve (mesh vertices.now positions.now arcs.now edges.now faces.now k) (room v1.now p1.now a1.now e1.now f1.now) (room v2.now p2.now a2.now e2.now f2.now) }
+#[tactic(auto, unfolding(file::specs::File::sizes_serve))]
+fn sizes_serve(mesh: MeshRef, room1: RoomRef, room2: RoomRef) -> bool
+    ensures { result ≡ sizes_serve (mesh_in mesh.entry) (room_in room1.entry) (room_in room2.entry) }
 {
-    if !sets::within_limits(vertices, positions, arcs, edges, faces) {
-        return false;
-    }
-    if !sets::room_enough(vertices, positions, arcs, edges, faces, v1, p1, a1, e1, f1) {
-        return false;
-    }
-    sets::room_enough(vertices, positions, arcs, edges, faces, v2, p2, a2, e2, f2)
+    sets::within_limits(mesh) && sets::room_enough(mesh, room1) && sets::room_enough(mesh, room2)
 }
 
 // A file read, with room that may be larger than the tables: in the parts of it that are as long.
-fn read_in_parts(
-    vertices: &mut [VertexRow],
-    positions: &mut [PositionRow],
-    arcs: &mut [ArcRow],
-    edges: &mut [EdgeRow],
-    faces: &mut [FaceRow],
-    counters: &mut [u32; 3],
+// Kept: five tables, since a part of a table that is a field cannot be lent while another field is used.
+fn read_in_first(
+    mesh: &mut MeshMut,
     v: &mut [VertexRow],
     p: &mut [PositionRow],
     a: &mut [ArcRow],
     e: &mut [EdgeRow],
     f: &mut [FaceRow],
     text: &[u8],
-) -> u32
-    requires counters_value { within_limits (mesh vertices.old positions.old arcs.old edges.old faces.old counters.old) ≡ true }
-    requires fits { Fits (room vertices.old positions.old arcs.old edges.old faces.old) (room v.old p.old a.old e.old f.old) }
-    ensures { taken result (mesh vertices.new positions.new arcs.new edges.new faces.new counters.new)
-        ≡ taken_of (mesh vertices.old positions.old arcs.old edges.old faces.old counters.old) text.now }
+) -> Result<(), ReadRefusal>
+    requires counters_value { within_limits (mesh_of mesh.old) ≡ true }
+    requires fits { Fits (tables_of (mesh_of mesh.old)) (room v.old p.old a.old e.old f.old) }
+    ensures taken { taken (number_of result) (mesh_of mesh.new) ≡ taken_of (mesh_of mesh.old) text.now }
+    ensures same { SameMesh mesh.old mesh.new }
 {
-    let nv = vertices.len();
-    let np = positions.len();
-    let na = arcs.len();
-    let ne = edges.len();
-    let nf = faces.len();
-    settle::read_in_room(
-        vertices,
-        positions,
-        arcs,
-        edges,
-        faces,
-        counters,
-        &mut v[0..nv],
-        &mut p[0..np],
-        &mut a[0..na],
-        &mut e[0..ne],
-        &mut f[0..nf],
+    let nv = mesh.vertices.len();
+    let np = mesh.positions.len();
+    let na = mesh.arcs.len();
+    let ne = mesh.edges.len();
+    let nf = mesh.faces.len();
+    let mut part = RoomMut {
+        vertices: &mut v[..nv],
+        positions: &mut p[..np],
+        arcs: &mut a[..na],
+        edges: &mut e[..ne],
+        faces: &mut f[..nf],
+    };
+    settle::read_in_room(mesh, &mut part, text)
+}
+
+fn read_in_parts(mesh: &mut MeshMut, room: &mut RoomMut, text: &[u8]) -> Result<(), ReadRefusal>
+    requires counters_value { within_limits (mesh_of mesh.old) ≡ true }
+    requires fits { Fits (tables_of (mesh_of mesh.old)) (room_of room.old) }
+    ensures taken { taken (number_of result) (mesh_of mesh.new) ≡ taken_of (mesh_of mesh.old) text.now }
+    ensures same { SameMesh mesh.old mesh.new }
+    ensures same_room { SameRoom room.old room.new }
+{
+    read_in_first(
+        mesh,
+        room.vertices,
+        room.positions,
+        room.arcs,
+        room.edges,
+        room.faces,
         text,
     )
 }
 
-// Every row of both rooms becomes zero.
-fn clear(
-    v1: &mut [VertexRow],
-    p1: &mut [PositionRow],
-    a1: &mut [ArcRow],
-    e1: &mut [EdgeRow],
-    f1: &mut [FaceRow],
-    v2: &mut [VertexRow],
-    p2: &mut [PositionRow],
-    a2: &mut [ArcRow],
-    e2: &mut [EdgeRow],
-    f2: &mut [FaceRow],
-)
-    ensures { (room v1.new p1.new a1.new e1.new f1.new ≡ zeroed (room v1.old p1.old a1.old e1.old f1.old)) × (room v2.new p2.new a2.new e2.new f2.new ≡ zeroed (room v2.old p2.old a2.old e2.old f2.old)) }
-{
-    sets::zero_set(v1, p1, a1, e1, f1);
-    sets::zero_set(v2, p2, a2, e2, f2);
-}
-
 // The call: what it answers and leaves is `read_file`, for every lent table, counter, room and text.
 pub fn read_mesh(
-    vertices: &mut [VertexRow],
-    positions: &mut [PositionRow],
-    arcs: &mut [ArcRow],
-    edges: &mut [EdgeRow],
-    faces: &mut [FaceRow],
-    counters: &mut [u32; 3],
-    v1: &mut [VertexRow],
-    p1: &mut [PositionRow],
-    a1: &mut [ArcRow],
-    e1: &mut [EdgeRow],
-    f1: &mut [FaceRow],
-    v2: &mut [VertexRow],
-    p2: &mut [PositionRow],
-    a2: &mut [ArcRow],
-    e2: &mut [EdgeRow],
-    f2: &mut [FaceRow],
+    mesh: &mut MeshMut,
+    room1: &mut RoomMut,
+    room2: &mut RoomMut,
     text: &[u8],
-) -> u32
-    ensures { file_read result (mesh vertices.new positions.new arcs.new edges.new faces.new counters.new) (room v1.new p1.new a1.new e1.new f1.new) (room v2.new p2.new a2.new e2.new f2.new)
-        ≡ read_file (mesh vertices.old positions.old arcs.old edges.old faces.old counters.old) (room v1.old p1.old a1.old e1.old f1.old) (room v2.old p2.old a2.old e2.old f2.old) text.now }
+) -> Result<(), ReadRefusal>
+    ensures read { file_read (number_of result) (mesh_of mesh.new) (room_of room1.new) (room_of room2.new)
+        ≡ read_file (mesh_of mesh.old) (room_of room1.old) (room_of room2.old) text.now }
+    ensures same { SameMesh mesh.old mesh.new }
+    ensures same_room1 { SameRoom room1.old room1.new }
+    ensures same_room2 { SameRoom room2.old room2.new }
 {
-    if !sizes_serve(
-        vertices, positions, arcs, edges, faces, v1, p1, a1, e1, f1, v2, p2, a2, e2, f2,
-    ) {
-        return 1;
+    if !sizes_serve(mesh.view(), room1.view(), room2.view()) {
+        return Err(ReadRefusal::Sizes);
     }
-    let number = read_in_parts(
-        vertices, positions, arcs, edges, faces, counters, v1, p1, a1, e1, f1, text,
-    );
-    clear(v1, p1, a1, e1, f1, v2, p2, a2, e2, f2);
-    number
+    let read = read_in_parts(mesh, room1, text);
+    sets::zero_set(room1);
+    sets::zero_set(room2);
+    read
 }

@@ -2,76 +2,36 @@
 
 use std::io;
 
-// The place after the line and its newline, where they stand in the text from a place on and before its end; or else 0.
-pub fn after_line(text: &[u8], from: usize, end: usize, line: &[u8]) -> usize {
-    let mut at = from;
-    let mut i: usize = 0;
-    while i < line.len() {
-        if !has_at(text, at, end, line[i]) {
-            return 0;
-        }
-        at = past(at);
-        i += 1;
+// The place after the line and its newline, where they stand in the text from a place on and before its end.
+pub fn after_line(text: &[u8], from: usize, end: usize, line: &[u8]) -> Option<usize> {
+    let rest = text.get(from..end)?;
+    if !rest.starts_with(line) || rest.get(line.len()) != Some(&b'\n') {
+        return None;
     }
-    if has_at(text, at, end, b'\n') {
-        return past(at);
-    }
-    0
-}
-
-// One more, short of the top.
-fn past(i: usize) -> usize {
-    if i > 65536 {
-        return i;
-    }
-    i + 1
-}
-
-// Whether the byte stands at a place of the text, before its end.
-fn has_at(text: &[u8], at: usize, end: usize, byte: u8) -> bool {
-    if at >= end {
-        return false;
-    }
-    if at >= text.len() {
-        return false;
-    }
-    text[at] == byte
-}
-
-// The first byte of a line, or 0 where it has none.
-pub fn first_byte(line: &[u8]) -> u8 {
-    if line.len() == 0 {
-        return 0;
-    }
-    line[0]
+    Some(from.saturating_add(line.len()).saturating_add(1))
 }
 
 // The line and a newline behind what is kept; the place after them. What there is no room for is left out.
 pub fn keep(kept: &mut [u8], from: usize, line: &[u8]) -> usize {
-    let mut at = from;
-    let mut i: usize = 0;
-    while i < line.len() {
-        at = keep_byte(kept, at, line[i]);
-        i += 1;
-    }
-    keep_byte(kept, at, b'\n')
+    let at = put_part(kept, from, line);
+    put_part(kept, at, b"\n")
 }
 
-fn keep_byte(kept: &mut [u8], at: usize, byte: u8) -> usize {
-    if at >= kept.len() {
-        return at;
+// As much of a text as there is room for behind a place.
+fn put_part(kept: &mut [u8], from: usize, part: &[u8]) -> usize {
+    let room = kept.len().saturating_sub(from);
+    let n = part.len().min(room);
+    let end = from.saturating_add(n);
+    if end <= kept.len() {
+        kept[from..end].copy_from_slice(&part[..n]);
     }
-    kept[at] = byte;
-    at + 1
+    end
 }
 
 // The text from a place to its end.
 pub fn print_part(rt: &impl Print, text: &[u8], from: usize, end: usize) -> io::Result<()> {
-    if end > text.len() {
-        return Ok(());
+    match text.get(from..end) {
+        Some(part) => rt.write_all(part),
+        None => Ok(()),
     }
-    if from > end {
-        return Ok(());
-    }
-    rt.write_all(&text[from..end])
 }

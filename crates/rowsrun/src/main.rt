@@ -5,164 +5,51 @@
 
 mod print;
 
-use runs::{Arcs, Edges, Faces, Positions, Vertices};
+ghost use Rattle.rules.specs.Lent.{SameMesh};
+
+use rules::MeshMut;
+use runs::Tables;
 use std::io;
 
 // A line is run; then it is printed with the rows that are in use.
-fn shown(
-    rt: &impl Print,
-    vertices: &mut Vertices,
-    positions: &mut Positions,
-    arcs: &mut Arcs,
-    edges: &mut Edges,
-    faces: &mut Faces,
-    counters: &mut [u32; 3],
-    line: &[u8],
-) -> io::Result<()> {
+fn shown(rt: &impl Print, mesh: &mut MeshMut, line: &[u8]) -> io::Result<()>
+    ensures { SameMesh mesh.old mesh.new }
+{
     let mut answer = [0u8; 64];
-    asking::ask(
-        vertices,
-        positions,
-        arcs,
-        edges,
-        faces,
-        counters,
-        line,
-        &mut answer,
-    );
+    asking::ask(mesh, line, &mut answer);
     print::after(rt, line)?;
-    print::edges(rt, edges)?;
-    print::faces(rt, faces)
+    print::rows(rt, "edge", mesh.edges)?;
+    print::rows(rt, "face", mesh.faces)
 }
 
 // Lines that make what the others change.
-fn drawn(
-    rt: &impl Print,
-    vertices: &mut Vertices,
-    positions: &mut Positions,
-    arcs: &mut Arcs,
-    edges: &mut Edges,
-    faces: &mut Faces,
-    counters: &mut [u32; 3],
-) -> io::Result<()> {
-    shown(
-        rt, vertices, positions, arcs, edges, faces, counters, b"v 0 0 0",
-    )?;
-    shown(
-        rt, vertices, positions, arcs, edges, faces, counters, b"v 4 0 0",
-    )?;
-    shown(
-        rt, vertices, positions, arcs, edges, faces, counters, b"v 4 4 0",
-    )?;
-    shown(
-        rt, vertices, positions, arcs, edges, faces, counters, b"v 0 4 0",
-    )?;
-    shown(
-        rt,
-        vertices,
-        positions,
-        arcs,
-        edges,
-        faces,
-        counters,
-        b"f 7 0 1 2",
-    )?;
-    shown(
-        rt,
-        vertices,
-        positions,
-        arcs,
-        edges,
-        faces,
-        counters,
-        b"f 8 0 2 3",
-    )
+fn drawn(rt: &impl Print, mesh: &mut MeshMut) -> io::Result<()>
+    ensures { SameMesh mesh.old mesh.new }
+{
+    shown(rt, mesh, b"v 0 0 0")?;
+    shown(rt, mesh, b"v 4 0 0")?;
+    shown(rt, mesh, b"v 4 4 0")?;
+    shown(rt, mesh, b"v 0 4 0")?;
+    shown(rt, mesh, b"f 7 0 1 2")?;
+    shown(rt, mesh, b"f 8 0 2 3")
 }
 
 fn main(rt: HostRuntime) -> io::Result<()> {
-    let mut vertices = [[0u32; 2]; 64];
-    let mut positions = [[0.0f64; 3]; 64];
-    let mut arcs = [[0u32; 6]; 256];
-    let mut edges = [[0u32; 3]; 128];
-    let mut faces = [[0u32; 3]; 64];
-    let mut counters = [0u32; 3];
-    drawn(
-        &rt,
-        &mut vertices,
-        &mut positions,
-        &mut arcs,
-        &mut edges,
-        &mut faces,
-        &mut counters,
-    )?;
-    shown(
-        &rt,
-        &mut vertices,
-        &mut positions,
-        &mut arcs,
-        &mut edges,
-        &mut faces,
-        &mut counters,
-        b"r 0",
-    )?;
-    shown(
-        &rt,
-        &mut vertices,
-        &mut positions,
-        &mut arcs,
-        &mut edges,
-        &mut faces,
-        &mut counters,
-        b"f 9 0 1 2",
-    )?;
-    shown(
-        &rt,
-        &mut vertices,
-        &mut positions,
-        &mut arcs,
-        &mut edges,
-        &mut faces,
-        &mut counters,
-        b"r 1",
-    )?;
-    shown(
-        &rt,
-        &mut vertices,
-        &mut positions,
-        &mut arcs,
-        &mut edges,
-        &mut faces,
-        &mut counters,
-        b"r 2",
-    )?;
-    shown(
-        &rt,
-        &mut vertices,
-        &mut positions,
-        &mut arcs,
-        &mut edges,
-        &mut faces,
-        &mut counters,
-        b"f 6 0 1 2 3",
-    )?;
-    shown(
-        &rt,
-        &mut vertices,
-        &mut positions,
-        &mut arcs,
-        &mut edges,
-        &mut faces,
-        &mut counters,
-        b"s 3 0 2",
-    )?;
-    shown(
-        &rt,
-        &mut vertices,
-        &mut positions,
-        &mut arcs,
-        &mut edges,
-        &mut faces,
-        &mut counters,
-        b"p 4 3 1 0",
-    )
+    let mut tables = Tables::empty();
+    let mut mesh = MeshMut {
+        vertices: &mut tables.vertices,
+        positions: &mut tables.positions,
+        arcs: &mut tables.arcs,
+        edges: &mut tables.edges,
+        faces: &mut tables.faces,
+        counters: &mut tables.counters,
+    };
+    drawn(&rt, &mut mesh)?;
+    shown(&rt, &mut mesh, b"r 0")?;
+    shown(&rt, &mut mesh, b"f 9 0 1 2")?;
+    shown(&rt, &mut mesh, b"r 1")?;
+    shown(&rt, &mut mesh, b"r 2")?;
+    shown(&rt, &mut mesh, b"f 6 0 1 2 3")?;
+    shown(&rt, &mut mesh, b"s 3 0 2")?;
+    shown(&rt, &mut mesh, b"p 4 3 1 0")
 }

@@ -4,5 +4,6 @@ pub mod Sums
 pub mod Walks
 pub mod Places
 pub mod Ends
+pub mod Lent
 pub mod Corners
 pub mod Promises

@@ -2,8 +2,8 @@
 use Prim.Native.String.{String}
 use Rattle.std.specs.Prelude.{ℕ, List, [], ◌∷◌, map, take}
 use Rattle.rules.specs.declared.Refusal.TheVariants.{Argument}
-use Rattle.rules.specs.declared.Answer.{Answer}
-use Rattle.rules.specs.declared.Answer.TheVariants.{Refused}
+use Rattle.rules.specs.Answer.{Answer}
+use Rattle.rules.specs.Answer.{Refused}
 use Rattle.rules.specs.declared.Reply.{Reply}
 use Rattle.rules.specs.Mesh.{Mesh, Room, source, mark, key_at, find_face}
 use Rattle.rules.specs.Link.{ring}

@@ -1,8 +1,8 @@
 -- Rules 2 and 6 to 9 of document 01: remove, split, poke, arc bridge, bridge. Faces, arcs and vertices are named by their links.
 use Rattle.std.specs.Prelude.{ℕ, ◌+◌, ◌-◌, min, max, Bool, not, ◌&&◌, ◌||◌, cond, List, [], ◌∷◌, ◌++◌, reverse, length, get_or, take, drop, eqb, ltb}
 use Rattle.rules.specs.declared.Position.{Position}
-use Rattle.rules.specs.declared.Answer.{Answer}
-use Rattle.rules.specs.declared.Answer.TheVariants.{Key, Arc, Mark, Done, Refused}
+use Rattle.rules.specs.Answer.{Answer}
+use Rattle.rules.specs.Answer.{Key, Arc, Mark, Done, Refused}
 use Rattle.rules.specs.declared.Refusal.TheVariants.{TopologyMalformed, TopologyNotFound, TopologyConflict, ArityNonUniform}
 use Rattle.rules.specs.Table.{put_row, first_row, some_below, up_to, after}
 use Rattle.rules.specs.Mesh.{Mesh, mesh, source, dest, face, mark, key_at, vertex_kind, next_key}

@@ -2,8 +2,8 @@
 use Rattle.std.specs.Prelude.{ℕ, Bool, not, cond, List, [], ◌∷◌, ◌++◌, length, get_or, eqb}
 use Rattle.rules.specs.declared.Position.{Position}
 use Rattle.rules.specs.declared.Move.{Move}
-use Rattle.rules.specs.declared.Answer.{Answer}
-use Rattle.rules.specs.declared.Answer.TheVariants.{Key, Arc, Done, Refused}
+use Rattle.rules.specs.Answer.{Answer}
+use Rattle.rules.specs.Answer.{Key, Arc, Done, Refused}
 use Rattle.rules.specs.declared.Refusal.TheVariants.{TopologyNotFound, TopologyConflict}
 use Rattle.rules.specs.Table.{up_to, after, every}
 use Rattle.rules.specs.Mesh.{Mesh, source, dest, face, find_arc, vertex_kind, face_kind, next_key}

@@ -1,7 +1,7 @@
 -- Rule 5 of document 01: face insert. A perimeter is a list of vertices by their links, 0 where a key is unknown.
 use Rattle.std.specs.Prelude.{ℕ, Bool, not, ◌&&◌, ◌||◌, cond, List, [], ◌∷◌, map, length, get_or, eqb, ltb}
-use Rattle.rules.specs.declared.Answer.{Answer}
-use Rattle.rules.specs.declared.Answer.TheVariants.{Key, Done, Refused}
+use Rattle.rules.specs.Answer.{Answer}
+use Rattle.rules.specs.Answer.{Key, Done, Refused}
 use Rattle.rules.specs.declared.Refusal.TheVariants.{TopologyMalformed, TopologyNotFound, TopologyConflict, SamePlace}
 use Rattle.rules.specs.Table.{Table, cell, put_row, free_row, some_below, up_to, after, or_else, has, distinct}
 use Rattle.rules.specs.Mesh.{Mesh, mesh, dest, next, previous, face, opposite, find_arc, face_kind, next_key, one_up, counted}

@@ -2,7 +2,9 @@ pub mod Table
 pub mod Mesh
 pub mod Point
 pub mod Link
+pub mod Answer
 pub mod Step
+pub mod Lent
 pub mod Insert
 pub mod Edit
 pub mod Extrude

@@ -1,5 +1,4 @@
 pub mod Cutting
-pub mod Used
 pub mod Ending
 pub mod Answering
 pub mod Passing

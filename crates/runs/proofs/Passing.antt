@@ -1,21 +1,22 @@
 -- A chunk that is fed line by line leaves what it leaves byte by byte, and what is written follows on what was written before.
 -- Assumes nothing.
-use Prim.Native.Nat.{ℕ, suc, ◌+◌, ◌-◌, ◌≤◌, ◌<◌}
+use Prim.Native.Nat.{ℕ, ◌+◌, ◌≤◌, ◌<◌}
 use native.Mathlib.Omega.{arith}
 use mathlib.Core.Path.{◌≡◌, refl, ap, sym, ◌∙◌}
 use mathlib.Core.Bool.{Bool, true, false, cond}
 use mathlib.Core.List.{[], ◌∷◌, ◌++◌, append_assoc, append-nil}
-use lib.ListN.{length, get_or, take, drop, length-append, length-drop, drop_of_length-le}
+use lib.ListN.{length, get_or, take, drop, length-append, drop_of_length-le}
 use lib.Seq.{drop-cons, take_at, drop_at, drop-drop, length-take-le}
 use lib.Dec.{eqb}
+use native.Mathlib.Numerals.{add-one}
+use borrow.Author.Tests.{eq-eqb, ne_eqb}
 use Rattle.rules.specs.Mesh.{Mesh, Room}
 use Rattle.rules.specs.Script.{Text, newline}
 use Rattle.script.specs.Texts.{Written, written, wrote}
 use Rattle.script.proofs.Writes.{wrote_none}
 use Rattle.runs.specs.Run.{Ran, ran_line, Printed, printed, printed_at}
-use Rattle.runs.specs.Gather.{held_in, none_held, line_ended, holds, holding, cut_byte, cut_all, Gathering, gathered_from, after_gathered}
-use Rattle.runs.specs.Feed.{ran_on, Feeding, feeding, unwritten, fed, after, prefixed, Handed, handed, handed_at, line_fed}
-use Rattle.runs.proofs.Cutting.{cut_line, next_up, next-most}
+use Rattle.runs.specs.Gather.{held_in, none_held, line_ended, holds, holding, cut_byte, cut_all}
+use Rattle.runs.specs.Feed.{ran_on, Feeding, feeding, unwritten, fed, after, prefixed, Handed, handed, handed_at}
 
 -- ---- what is written
 
@@ -50,82 +51,61 @@ wrote_on d at b n t u h e =
     let ek : n + length u ≡ at + length (t ++ u) = omega (arith, length-append t u) in
     rw (ef, eg, ek, append_assoc (take at d) t u)
 
-handed-on : (k : ℕ) (d : Text) (at : ℕ) (b : Text) (n : ℕ) (t : Text) (s : Feeding) → at ≤ length d → written b n ≡ wrote d at t
-    → handed_at k d at (prefixed t s) ≡ handed_at k b n s
+handed-on : (d : Text) (at : ℕ) (b : Text) (n : ℕ) (t : Text) (s : Feeding) → at ≤ length d → written b n ≡ wrote d at t
+    → handed_at d at (prefixed t s) ≡ handed_at b n s
 unfolding handed_at after
-handed-on k d at b n t s h e = rw (wrote_on d at b n t s.done.text h e)
+handed-on d at b n t s h e = rw (wrote_on d at b n t s.done.text h e)
 
--- ---- one line of the chunk
+-- ---- one byte of the chunk
 
-module _ (chunk : Text) (from : ℕ) (out : Text) (at : ℕ) (m : Mesh) (one two : Room) (line : Written) (g : Gathering)
-    (e : g ≡ gathered_from from line (drop from chunk)) where
-  pub line-goes-on : g.ended ≡ false → at ≤ length out → handed g.next (written out at) m one two g.line ≡ line_fed chunk from out at (unwritten m one two line)
-  unfolding line_fed after_gathered handed_at
-  line-goes-on h l = rw (← e, h, ← wrote_none out at l)
+module _ (out : Text) (at : ℕ) (m : Mesh) (one two : Room) (line : Written) (b : ℕ) where
+  pub byte-held : (b ≡ newline → ⊥) → at ≤ length out → (line' : Written) → line' ≡ holding line b
+      → handed (written out at) m one two line' ≡ handed_at out at (cut_byte ran_on (unwritten m one two line) b)
+  unfolding cut_byte handed_at
+  byte-held n l line' e = rw (ne_eqb b newline n, e, ← wrote_none out at l)
 
-  -- the bytes that are held are lent from the first on
-  pub line-ends : (w : Written) (m' : Mesh) (one' two' : Room) → g.ended ≡ true
-      → printed w m' one' two' ≡ printed_at out at (ran_line m one two (take (g.line.next - 0) g.line.bytes))
-      → handed g.next w m' one' two' (none_held g.line) ≡ line_fed chunk from out at (unwritten m one two line)
-  unfolding line_fed after_gathered handed_at line_ended ran_on printed_at
-  line-ends w m' one' two' h p =
-      let z : g.line.next - 0 ≡ g.line.next = omega arith in
-      rw (← e, h) (ap (λ (x : Printed). handed g.next x.buffer x.mesh x.one x.two (none_held g.line)) (rw z at p))
+  pub byte-ends : b ≡ newline → (text : Text) → text ≡ held_in line → (line' : Written) → line' ≡ none_held line
+      → (w : Written) (m' : Mesh) (one' two' : Room) → printed w m' one' two' ≡ printed_at out at (ran_line m one two text)
+      → handed w m' one' two' line' ≡ handed_at out at (cut_byte ran_on (unwritten m one two line) b)
+  unfolding cut_byte handed_at line_ended ran_on printed_at
+  byte-ends n text et line' el w m' one' two' p =
+      rw (eq-eqb b newline n, ← et, el) (ap (λ (x : Printed). handed x.buffer x.mesh x.one x.two (none_held line)) p)
 
 -- ---- a turn of the loop
 
-module _ (chunk : Text) (next : ℕ) (out : Text) (at : ℕ) (m : Mesh) (one two : Room) (line : Written)
-    (next' : ℕ) (out' : Text) (at' : ℕ) (m' : Mesh) (one' two' : Room) (line' : Written)
-    (e : handed next' (written out' at') m' one' two' line' ≡ line_fed chunk next out at (unwritten m one two line)) where
+module _ (chunk : Text) (i : ℕ) (lt : i < length chunk) (out : Text) (at : ℕ) (m : Mesh) (one two : Room) (line : Written)
+    (out' : Text) (at' : ℕ) (m' : Mesh) (one' two' : Room) (line' : Written)
+    (e : handed (written out' at') m' one' two' line' ≡ handed_at out at (cut_byte ran_on (unwritten m one two line) (get_or chunk i 0))) where
   s : Feeding
-  s = unwritten m one two line
+  s = cut_byte ran_on (unwritten m one two line) (get_or chunk i 0)
 
-  g : Gathering
-  g = gathered_from next line (drop next chunk)
+  here : drop i chunk ≡ get_or chunk i 0 ∷ drop (i + 1) chunk
+  here = rw (add-one i) (drop-cons chunk i 0 lt)
 
-  s' : Feeding
-  s' = after_gathered ran_on s g
-
-  next-is : next' ≡ g.next
-  unfolding line_fed handed_at s g
-  next-is = ap (λ (h : Handed). h.next) e
-
-  text-is : written out' at' ≡ wrote out at s'.done.text
-  unfolding line_fed handed_at s g s'
+  text-is : written out' at' ≡ wrote out at s.done.text
+  unfolding handed_at s
   text-is = ap (λ (h : Handed). h.buffer) e
 
-  state-is : s' ≡ prefixed s'.done.text (unwritten m' one' two' line')
-  unfolding line_fed handed_at s g s' after
-  state-is =
-      rw append-nil (sym (ap (λ (h : Handed). feeding s'.done.text h.mesh h.one h.two h.line) e))
+  state-is : s ≡ prefixed s.done.text (unwritten m' one' two' line')
+  unfolding handed_at s after
+  state-is = rw append-nil (sym (ap (λ (h : Handed). feeding s.done.text h.mesh h.one h.two h.line) e))
 
-  pub turn_on : next < length chunk → next < next'
-  unfolding g
-  turn_on h =
-      let up : next < (gathered_from next line (drop next chunk)).next =
-      rw (drop-cons chunk next 0 h) (next_up (get_or chunk next 0) (drop (suc next) chunk) next line) in
-      omega (arith, next-is)
+  on-it : fed (unwritten m one two line) (drop i chunk) ≡ fed s (drop (i + 1) chunk)
+  unfolding s cut_all
+  on-it = rw here
 
-  pub turn-within : next < length chunk → next' ≤ length chunk
-  unfolding g
-  turn-within h = omega (arith, next-is, next-most (drop next chunk) next line, length-drop next chunk)
-
-  pub turn-again : (k : ℕ) → at ≤ length out
-      → handed_at k out at (fed (unwritten m one two line) (drop next chunk)) ≡ handed_at k out' at' (fed (unwritten m' one' two' line') (drop next' chunk))
-  unfolding s g s'
-  turn-again k h =
+  pub turn-again : at ≤ length out
+      → handed_at out at (fed (unwritten m one two line) (drop i chunk)) ≡ handed_at out' at' (fed (unwritten m' one' two' line') (drop (i + 1) chunk))
+  turn-again h =
       let u : Feeding = unwritten m' one' two' line' in
-      let rest : Text = drop g.next chunk in
-      ap (handed_at k out at) (cut_line ran_on chunk next s)
-      ∙ ap (λ (x : Feeding). handed_at k out at (fed x rest)) state-is
-      ∙ ap (handed_at k out at) (fed-prefixed s'.done.text u rest)
-      ∙ handed-on k out at out' at' s'.done.text (fed u rest) h text-is
-      ∙ ap (λ (n : ℕ). handed_at k out' at' (fed u (drop n chunk))) (sym next-is)
+      let rest : Text = drop (i + 1) chunk in
+      ap (handed_at out at) on-it
+      ∙ ap (λ (x : Feeding). handed_at out at (fed x rest)) state-is
+      ∙ ap (handed_at out at) (fed-prefixed s.done.text u rest)
+      ∙ handed-on out at out' at' s.done.text (fed u rest) h text-is
 
 -- the chunk's end
-pub chunk-ends : (chunk : Text) (next : ℕ) (out : Text) (at : ℕ) (m : Mesh) (one two : Room) (line : Written) → length chunk ≤ next → next ≤ length chunk → at ≤ length out
-    → handed next (written out at) m one two line ≡ handed_at (length chunk) out at (fed (unwritten m one two line) (drop next chunk))
+pub chunk-ends : (chunk : Text) (i : ℕ) (out : Text) (at : ℕ) (m : Mesh) (one two : Room) (line : Written) → length chunk ≤ i → at ≤ length out
+    → handed (written out at) m one two line ≡ handed_at out at (fed (unwritten m one two line) (drop i chunk))
 unfolding handed_at cut_all
-chunk-ends chunk next out at m one two line h l r =
-    let n : next ≡ length chunk = omega arith in
-    rw (drop_of_length-le chunk h, ← wrote_none out at r) (ap (λ (k : ℕ). handed k (written out at) m one two line) n)
+chunk-ends chunk i out at m one two line h r = rw (drop_of_length-le chunk h, ← wrote_none out at r)

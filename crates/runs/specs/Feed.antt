@@ -1,10 +1,10 @@
 -- An input fed to the program: each line that ends is run, and what is written for it follows on what was written before.
-use Rattle.std.specs.Prelude.{ℕ, [], ◌++◌, drop}
+use Rattle.std.specs.Prelude.{ℕ, [], ◌++◌}
 use Rattle.rules.specs.Mesh.{Mesh, Room}
 use Rattle.rules.specs.Script.{Text}
 use Rattle.script.specs.Texts.{Written, wrote}
 use Rattle.runs.specs.Run.{Ran, ran, ran_line}
-use Rattle.runs.specs.Gather.{Cut, cut, cut_all, gathered_from, after_gathered}
+use Rattle.runs.specs.Gather.{Cut, cut, cut_all}
 
 -- one line more
 unfoldable pub ran_on : Ran → Text → Ran
@@ -33,24 +33,17 @@ after t s = ran (t ++ s.text) s.mesh s.one s.two
 abbrev pub prefixed : Text → Feeding → Feeding
 prefixed t s = cut (after t s.done) s.line
 
--- ---- as the code has it: the place reached in the chunk, and what is written in a buffer
+-- ---- as the code has it: what is written stands in a buffer
 
 pub record Handed : Type 0 where
-  pub next : ℕ
   pub buffer : Written
   pub mesh : Mesh
   pub one : Room
   pub two : Room
   pub line : Written
 
-abbrev pub handed : ℕ → Written → Mesh → Room → Room → Written → Handed
-handed n w m one two l = record { next = n; buffer = w; mesh = m; one = one; two = two; line = l }
+abbrev pub handed : Written → Mesh → Room → Room → Written → Handed
+handed w m one two l = record { buffer = w; mesh = m; one = one; two = two; line = l }
 
-unfoldable pub handed_at : ℕ → Text → ℕ → Feeding → Handed
-handed_at next out at s = handed next (wrote out at s.done.text) s.done.mesh s.done.one s.done.two s.line
-
--- the bytes of a chunk from a place on, up to the next newline
-unfoldable pub line_fed : Text → ℕ → Text → ℕ → Feeding → Handed
-line_fed chunk from out at s =
-    let g = gathered_from from s.line (drop from chunk) in
-    handed_at g.next out at (after_gathered ran_on s g)
+unfoldable pub handed_at : Text → ℕ → Feeding → Handed
+handed_at out at s = handed (wrote out at s.done.text) s.done.mesh s.done.one s.done.two s.line

@@ -4,23 +4,44 @@
 
 #![tactic(auto)]
 
+ghost use Rattle.std.specs.Prelude.{◌≡◌};
+ghost use Rattle.rules.specs.Mesh.{mesh, room};
+ghost use Rattle.rules.specs.Script.{empty_mesh, empty_room};
+
 use rules::{ArcRow, EdgeRow, FaceRow, PositionRow, VertexRow};
 
 pub mod run; // run.rt: one line, one call, one answer
-pub mod gather; // gather.rt: the lines of an input, cut out of the chunks in which it is read
+pub mod held; // held.rt: the line that is read
 pub mod feed; // feed.rt: a chunk of input, with all lines that end in it
 pub mod counts; // counts.rt: the check, and the last line
 
-// Tables of 64 vertices, 128 edges and 64 faces, and two arcs for each edge.
-pub type Vertices = [VertexRow; 64];
+// Tables of 64 vertices, 128 edges and 64 faces, and two arcs for each edge; and counters. They are lent as a mesh or as working room.
+#[derive(Drop)]
+pub struct Tables {
+    pub vertices: [VertexRow; 64],
+    pub positions: [PositionRow; 64],
+    pub arcs: [ArcRow; 256],
+    pub edges: [EdgeRow; 128],
+    pub faces: [FaceRow; 64],
+    pub counters: [u32; 3],
+}
 
-pub type Positions = [PositionRow; 64];
-
-pub type Arcs = [ArcRow; 256];
-
-pub type Edges = [EdgeRow; 128];
-
-pub type Faces = [FaceRow; 64];
+impl Tables {
+    // With no record.
+    pub fn empty() -> Self
+        ensures is_mesh { mesh result.vertices result.positions result.arcs result.edges result.faces result.counters ≡ empty_mesh 64 128 64 }
+        ensures is_room { room result.vertices result.positions result.arcs result.edges result.faces ≡ empty_room 64 128 64 }
+    {
+        Tables {
+            vertices: [[0; 2]; 64],
+            positions: [[0.0; 3]; 64],
+            arcs: [[0; 6]; 256],
+            edges: [[0; 3]; 128],
+            faces: [[0; 3]; 64],
+            counters: [0; 3],
+        }
+    }
+}
 
 // The bytes of a line that are held: one more than a line may have, so that a longer one is told.
 pub const HELD: usize = 513;
@@ -29,19 +50,3 @@ pub const HELD: usize = 513;
 pub const CHUNK: usize = 1024;
 
 pub const ANSWERS: usize = 65536;
-
-// Where a line stands after some bytes of a chunk: the place after them, how many bytes of the line are held, and whether it ended.
-#[derive(Clone, Copy)]
-pub struct Gathered {
-    pub next: usize,
-    pub held: usize,
-    pub ended: bool,
-}
-
-// After some bytes of a chunk: the place after them, how many bytes of an unended line are held, and the place after the answers.
-#[derive(Clone, Copy)]
-pub struct Fed {
-    pub next: usize,
-    pub held: usize,
-    pub at: usize,
-}

@@ -7,19 +7,16 @@ use mathlib.Core.Path.{◌≡◌, refl, ap, sym, ◌∙◌}
 use mathlib.Core.Bool.{Bool, true, false, cond}
 use mathlib.Core.List.{List, [], ◌∷◌, ◌++◌, append_assoc, append-nil}
 use lib.ListN.{length, get_or, take, drop, set, replicate, length-set, take-append-drop}
-use lib.Seq.{slice, slice-cons, slice_empty, length-slice, take-suc-set, drop-set-lt, length-take-le, drop-drop}
+use lib.Seq.{slice, slice-cons, slice_empty, length-slice, take_all, take-suc-set, drop-set-lt, length-take-le, drop-drop}
 use lib.Dec.{eqb, leb}
-use lib.IntN.{ℤ}
-use borrow.Author.Tests.{le-leb, lt-leb, ne_eqb}
+use lib.IntN.{ℤ, pos, neg_ℤ}
+use borrow.Author.Tests.{le-leb, lt-leb, ne_eqb, eq-eqb}
+use Rattle.std.specs.Prelude.{Option, Some, None}
+use Rattle.std.specs.Option.{option_map}
 use Rattle.rules.specs.Point.{position}
 use Rattle.rules.specs.Script.{Text, Reading, unread, reads, Whole, no_whole, whole, whole_of, Numbers, no_numbers, numbers, no_point, point, number_in, coordinate_in, digits_up_to, float_of, one_more, numbers_in, point_of, point_in}
-use Rattle.script.specs.declared.Digits.TheVariants.{Value, Unread}
-use Rattle.script.specs.declared.Field.{Field}
-use Rattle.script.specs.declared.Field.TheVariants.{Number, NoNumber}
-use Rattle.script.specs.declared.Offset.TheVariants.{Coordinate, NoCoordinate}
-use Rattle.script.specs.declared.Spot.TheVariants.{At, Nowhere}
 use Rattle.script.specs.declared.Numbers.{Numbers as ReadNumbers}
-use Rattle.script.specs.Fields.{end_of, field_at, fields_from, place_after, letter_of, letter_at, digits_of, field_of, number_at, signed_of, offset_of, coordinate_at, spot_of, padded, none_from, numbers_of, numbers_at}
+use Rattle.script.specs.Fields.{end_of, field_at, fields_from, next_place, place_after, digits_of, offset_of, letter_of, letter_at, number_at, coordinate_at, spot_of, padded, numbers_of}
 use Rattle.script.proofs.Places.{end-within, end-from, fields-first, fields-none}
 
 pub differ : (a b : ℕ) → a ≤ b → (a ≡ b → ⊥) → a < b
@@ -29,100 +26,84 @@ differ a b l n = go (dec_le (suc a) b)
     go (yes h) = h
     go (no m) = let e : a ≡ b = omega arith in absurd (n e)
 
--- ---- one field
+-- ---- what a field says
 
-value_of : (r : Reading) (v : ℕ) → Value v ≡ digits_of r → r ≡ reads v
-unfolding digits_of
-value_of unread v e = let z : ◌≡◌ {A = ℕ} 0 1 = cc in let n : ⊥ = omega arith in absurd n
-value_of (reads w) v e = cc
+pub letter-is : (f : Text) → length f ≡ 1 → Some (get_or f 0 0) ≡ letter_of f
+unfolding letter_of
+letter-is [] h = let b : ⊥ = omega arith in absurd b
+letter-is (c ∷ []) h = refl
+letter-is (c ∷ d ∷ f) h = let b : ⊥ = omega arith in absurd b
 
-unread-of : (r : Reading) → Unread ≡ digits_of r → r ≡ unread
-unfolding digits_of
-unread-of unread e = refl
-unread-of (reads w) e = let z : ◌≡◌ {A = ℕ} 0 1 = cc in let n : ⊥ = omega arith in absurd n
+pub letter-not : (f : Text) → (length f ≡ 1 → ⊥) → None ≡ letter_of f
+unfolding letter_of
+letter-not [] h = refl
+letter-not (c ∷ []) h = absurd (h refl)
+letter-not (c ∷ d ∷ f) h = refl
 
-module _ (text : Text) (at : ℕ) (h : at ≤ length text) where
-  pub number-value : (v : ℕ) → Value v ≡ digits_of (digits_up_to 4294967295 (slice at (end_of text at) text)) → number_at text at ≡ Number v (end_of text at + 1)
-  unfolding number_at number_in field_at field_of
-  number-value v e = rw (le-leb at (length text) h, value_of (digits_up_to 4294967295 (slice at (end_of text at) text)) v e)
+-- digits with their sign, as a coordinate
+abbrev pub signed : Bool → Option ℕ → Option lib.Ieee.Float
+signed minus d = option_map (λ v. float_of (cond minus (neg_ℤ (pos v)) (pos v))) d
 
-  pub number-unread : Unread ≡ digits_of (digits_up_to 4294967295 (slice at (end_of text at) text)) → number_at text at ≡ NoNumber
-  unfolding number_at number_in field_at field_of
-  number-unread e = rw (le-leb at (length text) h, unread-of (digits_up_to 4294967295 (slice at (end_of text at) text)) e)
+signed-whole : (m : Bool) (r : Reading) → signed m (digits_of r) ≡ offset_of (whole_of m r)
+unfolding offset_of whole_of digits_of
+signed-whole m unread = refl
+signed-whole true (reads v) = refl
+signed-whole false (reads v) = refl
 
-pub number_past : (text : Text) (at : ℕ) → length text < at → number_at text at ≡ NoNumber
-unfolding number_at
-number_past text at h = rw (lt-leb at (length text) h)
+pub coordinate-none : (f : Text) → length f ≡ 0 → None ≡ offset_of (coordinate_in f)
+unfolding offset_of coordinate_in
+coordinate-none [] h = refl
+coordinate-none (c ∷ f) h = let b : ⊥ = omega arith in absurd b
 
-pub coordinate-past : (text : Text) (at : ℕ) → length text < at → coordinate_at text at ≡ NoCoordinate
-unfolding coordinate_at
-coordinate-past text at h = rw (lt-leb at (length text) h)
+pub coordinate-minus : (f : Text) → (length f ≡ 0 → ⊥) → get_or f 0 0 ≡ 45 → signed true (digits_of (digits_up_to 1000000 (take (length f - 1) (drop 1 f)))) ≡ offset_of (coordinate_in f)
+unfolding coordinate_in
+coordinate-minus [] h e = absurd (h refl)
+coordinate-minus (c ∷ f) h e = rw (eq-eqb c 45 e, take_all (suc (length f) - 1) f (omega arith)) (signed-whole true (digits_up_to 1000000 f))
 
-signed-whole : (m : Bool) (r : Reading) (next : ℕ) → offset_of (whole_of m r) next ≡ signed_of m (digits_of r) next
-unfolding offset_of whole_of signed_of digits_of
-signed-whole m unread next = refl
-signed-whole true (reads v) next = refl
-signed-whole false (reads v) next = refl
+pub coordinate-plain : (f : Text) → (length f ≡ 0 → ⊥) → (get_or f 0 0 ≡ 45 → ⊥) → signed false (digits_of (digits_up_to 1000000 f)) ≡ offset_of (coordinate_in f)
+unfolding coordinate_in
+coordinate-plain [] h e = absurd (h refl)
+coordinate-plain (c ∷ f) h e = rw (ne_eqb c 45 e) (signed-whole false (digits_up_to 1000000 (c ∷ f)))
+
+-- ---- the field at a place
+
+pub place-in : (text : Text) (at : ℕ) → at ≤ length text → next_place text at ≡ end_of text at + 1
+unfolding next_place
+place-in text at h = rw (le-leb at (length text) h)
+
+pub place-past : (text : Text) (at : ℕ) → length text < at → next_place text at ≡ at
+unfolding next_place
+place-past text at h = rw (lt-leb at (length text) h)
+
+module _ (text : Text) (at : ℕ) (h : length text < at) where
+  pub letter-past : None ≡ letter_at text at
+  unfolding letter_at
+  letter-past = rw (lt-leb at (length text) h)
+
+  pub number_past : None ≡ number_at text at
+  unfolding number_at
+  number_past = rw (lt-leb at (length text) h)
+
+  pub coordinate-past : None ≡ coordinate_at text at
+  unfolding coordinate_at
+  coordinate-past = rw (lt-leb at (length text) h)
+
+module _ (text : Text) (at : ℕ) (f : Text) (h : at ≤ length text) (e : f ≡ field_at text at) where
+  pub letter-here : letter_of f ≡ letter_at text at
+  unfolding letter_at
+  letter-here = rw (le-leb at (length text) h, e)
+
+  pub number-here : digits_of (number_in f) ≡ number_at text at
+  unfolding number_at
+  number-here = rw (le-leb at (length text) h, e)
+
+  pub coordinate-here : offset_of (coordinate_in f) ≡ coordinate_at text at
+  unfolding coordinate_at
+  coordinate-here = rw (le-leb at (length text) h, e)
 
 pub field-none : (text : Text) (at : ℕ) → at ≡ end_of text at → field_at text at ≡ []
 unfolding field_at
 field-none text at e = rw (← e) (slice_empty at text)
-
-field-some : (text : Text) (at : ℕ) → at ≤ length text → at < end_of text at → field_at text at ≡ get_or text at 0 ∷ slice (at + 1) (end_of text at) text
-unfolding field_at
-field-some text at h l = rw (add-one at) (slice-cons at (end_of text at) text 0 l (end-within text at h))
-
-module _ (text : Text) (at : ℕ) (h : at ≤ length text) where
-  pub coordinate-none : at ≡ end_of text at → coordinate_at text at ≡ NoCoordinate
-  unfolding coordinate_at coordinate_in offset_of
-  coordinate-none e = rw (le-leb at (length text) h, field-none text at e)
-
-  pub coordinate-minus : at < end_of text at → eqb (get_or text at 0) 45 ≡ true
-      → coordinate_at text at ≡ signed_of true (digits_of (digits_up_to 1000000 (slice (at + 1) (end_of text at) text))) (end_of text at + 1)
-  unfolding coordinate_at coordinate_in
-  coordinate-minus l e =
-      rw (le-leb at (length text) h, field-some text at h l, e)
-      (signed-whole true (digits_up_to 1000000 (slice (at + 1) (end_of text at) text)) (end_of text at + 1))
-
-  pub coordinate-plain : at < end_of text at → eqb (get_or text at 0) 45 ≡ false
-      → coordinate_at text at ≡ signed_of false (digits_of (digits_up_to 1000000 (slice at (end_of text at) text))) (end_of text at + 1)
-  unfolding coordinate_at coordinate_in field_at
-  coordinate-plain l e =
-      let f : slice at (end_of text at) text ≡ get_or text at 0 ∷ slice (at + 1) (end_of text at) text = field-some text at h l in
-      rw (le-leb at (length text) h, f, e)
-      (signed-whole false (digits_up_to 1000000 (get_or text at 0 ∷ slice (at + 1) (end_of text at) text)) (end_of text at + 1))
-
--- ---- a letter
-
-letter-other : (f : Text) → (length f ≡ 1 → ⊥) → letter_of f ≡ 0
-unfolding letter_of
-letter-other [] h = refl
-letter-other (c ∷ []) h = absurd (h refl)
-letter-other (c ∷ d ∷ f) h = refl
-
-pub letter-past : (text : Text) (at : ℕ) → length text < at → letter_at text at ≡ record { byte = 0; next = at }
-unfolding letter_at
-letter-past text at h = rw (lt-leb at (length text) h)
-
-module _ (text : Text) (at : ℕ) (h : at ≤ length text) where
-  pub letter-not : (end_of text at ≡ at + 1 → ⊥) → letter_at text at ≡ record { byte = 0; next = end_of text at + 1 }
-  unfolding letter_at field_at
-  letter-not n =
-      rw (
-        le-leb at (length text) h,
-        letter-other (slice at (end_of text at) text) (λ q. n (omega (arith, q, length-slice at (end_of text at) text (end-within text at h)))),
-      )
-
-  pub letter-in : end_of text at ≡ at + 1 → at < length text
-  letter-in e = omega (arith, end-within text at h)
-
-  pub letter-is : end_of text at ≡ at + 1 → letter_at text at ≡ record { byte = get_or text at 0; next = end_of text at + 1 }
-  unfolding letter_at field_at letter_of
-  letter-is e =
-      let l : at + 1 ≤ length text = rw e at (end-within text at h) in
-      let s : slice at (at + 1) text ≡ get_or text at 0 ∷ [] =
-      slice-cons at (at + 1) text 0 (omega arith) l ∙ ap (λ (k : Text). get_or text at 0 ∷ k) (rw (add-one at) (slice_empty (suc at) text)) in
-      rw (le-leb at (length text) h, e, s)
 
 -- ---- the first field that is left, and the others
 
@@ -148,21 +129,30 @@ rest_from text at = go (dec_le at (length text))
         let here : length text < at = omega arith in
         fields-none text (end_of text at + 1) past ∙ sym (ap rest (fields-none text at here))
 
-coordinate-first : (text : Text) (at : ℕ) → coordinate_at text at ≡ offset_of (first_whole (fields_from text at)) (end_of text at + 1)
+rest-next : (text : Text) (at : ℕ) → fields_from text (next_place text at) ≡ rest (fields_from text at)
+rest-next text at = go (dec_le at (length text))
+  where
+    go : Dec (at ≤ length text) → fields_from text (next_place text at) ≡ rest (fields_from text at)
+    go (yes h) = ap (fields_from text) (place-in text at h) ∙ rest_from text at
+    go (no n) =
+        let here : length text < at = omega arith in
+        ap (fields_from text) (place-past text at here) ∙ fields-none text at here ∙ sym (ap rest (fields-none text at here))
+
+coordinate-first : (text : Text) (at : ℕ) → coordinate_at text at ≡ offset_of (first_whole (fields_from text at))
 unfolding coordinate_at offset_of
 coordinate-first text at = go (dec_le at (length text))
   where
-    go : Dec (at ≤ length text) → coordinate_at text at ≡ offset_of (first_whole (fields_from text at)) (end_of text at + 1)
+    go : Dec (at ≤ length text) → coordinate_at text at ≡ offset_of (first_whole (fields_from text at))
     go (yes h) = rw (le-leb at (length text) h, fields-first text at h)
     go (no n) =
         let here : length text < at = omega arith in
         rw (lt-leb at (length text) here, fields-none text at here)
 
-number-first : (text : Text) (at : ℕ) → number_at text at ≡ field_of (first_number (fields_from text at)) (end_of text at + 1)
-unfolding number_at field_of
+number-first : (text : Text) (at : ℕ) → number_at text at ≡ digits_of (first_number (fields_from text at))
+unfolding number_at digits_of
 number-first text at = go (dec_le at (length text))
   where
-    go : Dec (at ≤ length text) → number_at text at ≡ field_of (first_number (fields_from text at)) (end_of text at + 1)
+    go : Dec (at ≤ length text) → number_at text at ≡ digits_of (first_number (fields_from text at))
     go (yes h) = rw (le-leb at (length text) h, fields-first text at h)
     go (no n) =
         let here : length text < at = omega arith in
@@ -170,29 +160,30 @@ number-first text at = go (dec_le at (length text))
 
 -- ---- coordinates
 
+-- a coordinate that was read at a place, and the place behind it
 pub record CoordinateIs (text : Text) (at : ℕ) (x : lib.Ieee.Float) (next : ℕ) : Type 0 where
   pub size : ℤ
   pub first : first_whole (fields_from text at) ≡ whole size
   pub is : x ≡ float_of size
   pub others : fields_from text next ≡ rest (fields_from text at)
 
-offset-is : (w : Whole) (next : ℕ) (x : lib.Ieee.Float) (n : ℕ) → offset_of w next ≡ Coordinate x n → (z : ℤ) × ((w ≡ whole z) × (x ≡ float_of z) × (n ≡ next))
+offset-is : (w : Whole) (x : lib.Ieee.Float) → Some x ≡ offset_of w → (z : ℤ) × ((w ≡ whole z) × (x ≡ float_of z))
 unfolding offset_of
-offset-is no_whole next x n e = let z : ◌≡◌ {A = ℕ} 0 1 = cc in let b : ⊥ = omega arith in absurd b
-offset-is (whole z) next x n e = (z, (refl, cc, cc))
+offset-is no_whole x e = let z : ◌≡◌ {A = ℕ} 0 1 = cc in let b : ⊥ = omega arith in absurd b
+offset-is (whole z) x e = (z, (refl, cc))
 
-offset-not : (w : Whole) (next : ℕ) → offset_of w next ≡ NoCoordinate → w ≡ no_whole
+offset-not : (w : Whole) → None ≡ offset_of w → w ≡ no_whole
 unfolding offset_of
-offset-not no_whole next e = refl
-offset-not (whole z) next e = let z : ◌≡◌ {A = ℕ} 0 1 = cc in let b : ⊥ = omega arith in absurd b
+offset-not no_whole e = refl
+offset-not (whole z) e = let z : ◌≡◌ {A = ℕ} 0 1 = cc in let b : ⊥ = omega arith in absurd b
 
-pub coordinate-is : (text : Text) (at : ℕ) (x : lib.Ieee.Float) (next : ℕ) → coordinate_at text at ≡ Coordinate x next → CoordinateIs text at x next
-coordinate-is text at x next e =
-    let o = offset-is (first_whole (fields_from text at)) (end_of text at + 1) x next (sym (coordinate-first text at) ∙ e) in
-    record { size = o.0; first = o.1.0; is = o.1.1; others = ap (fields_from text) o.1.2 ∙ rest_from text at }
+pub coordinate-is : (text : Text) (at : ℕ) (x : lib.Ieee.Float) (next : ℕ) → Some x ≡ coordinate_at text at → next ≡ next_place text at → CoordinateIs text at x next
+coordinate-is text at x next e p =
+    let o = offset-is (first_whole (fields_from text at)) x (e ∙ coordinate-first text at) in
+    record { size = o.0; first = o.1.0; is = o.1.1; others = ap (fields_from text) p ∙ rest-next text at }
 
-pub coordinate-is-not : (text : Text) (at : ℕ) → coordinate_at text at ≡ NoCoordinate → first_whole (fields_from text at) ≡ no_whole
-coordinate-is-not text at e = offset-not (first_whole (fields_from text at)) (end_of text at + 1) (sym (coordinate-first text at) ∙ e)
+pub coordinate-is-not : (text : Text) (at : ℕ) → None ≡ coordinate_at text at → first_whole (fields_from text at) ≡ no_whole
+coordinate-is-not text at e = offset-not (first_whole (fields_from text at)) (e ∙ coordinate-first text at)
 
 either : (b : Bool) → cond b no_point no_point ≡ no_point
 either true = refl
@@ -246,17 +237,17 @@ three (a ∷ b ∷ c ∷ d ∷ fs) x y z ex ey ez e = let z : ◌≡◌ {A = ℕ
 
 -- what three coordinates one after the other say
 module _ (text : Text) (at : ℕ) where
-  pub spot-first : coordinate_at text at ≡ NoCoordinate → Nowhere ≡ spot_of (point_in (fields_from text at))
+  pub spot-first : None ≡ coordinate_at text at → None ≡ spot_of (point_in (fields_from text at))
   unfolding spot_of
   spot-first e = sym (ap spot_of (no-first (fields_from text at) (coordinate-is-not text at e)))
 
-  pub spot-second : (x : lib.Ieee.Float) (second : ℕ) → CoordinateIs text at x second → coordinate_at text second ≡ NoCoordinate → Nowhere ≡ spot_of (point_in (fields_from text at))
+  pub spot-second : (x : lib.Ieee.Float) (second : ℕ) → CoordinateIs text at x second → None ≡ coordinate_at text second → None ≡ spot_of (point_in (fields_from text at))
   unfolding spot_of
   spot-second x second o e =
       sym (ap spot_of (no_second (fields_from text at) (ap first_whole (sym o.others) ∙ coordinate-is-not text second e)))
 
-  pub spot-third : (x y : lib.Ieee.Float) (second third : ℕ) → CoordinateIs text at x second → CoordinateIs text second y third → coordinate_at text third ≡ NoCoordinate
-      → Nowhere ≡ spot_of (point_in (fields_from text at))
+  pub spot-third : (x y : lib.Ieee.Float) (second third : ℕ) → CoordinateIs text at x second → CoordinateIs text second y third → None ≡ coordinate_at text third
+      → None ≡ spot_of (point_in (fields_from text at))
   unfolding spot_of
   spot-third x y second third o p e =
       sym (ap spot_of (no_third (fields_from text at) (ap (λ (l : List Text). first_whole (rest l)) (sym o.others) ∙ ap first_whole (sym p.others) ∙ coordinate-is-not text third e)))
@@ -265,11 +256,11 @@ module _ (text : Text) (at : ℕ) where
     after-three : rest (rest (rest (fields_from text at))) ≡ fields_from text last
     after-three = sym (q.others ∙ ap rest p.others ∙ ap (λ (l : List Text). rest (rest l)) o.others)
 
-    pub spot-more : last ≤ length text → Nowhere ≡ spot_of (point_in (fields_from text at))
+    pub spot-more : last ≤ length text → None ≡ spot_of (point_in (fields_from text at))
     unfolding spot_of
     spot-more h = sym (ap spot_of (too_many (fields_from text at) (field_at text last) (fields_from text (end_of text last + 1)) (after-three ∙ fields-first text last h)))
 
-    pub spot_is : length text < last → At (position x y z) ≡ spot_of (point_in (fields_from text at))
+    pub spot_is : length text < last → Some (position x y z) ≡ spot_of (point_in (fields_from text at))
     unfolding spot_of
     spot_is h =
         rw (o.is, p.is, q.is)
@@ -286,15 +277,15 @@ pub record NumberIs (text : Text) (at v next : ℕ) : Type 0 where
   pub near : next ≤ length text + 1
   pub place : next ≡ end_of text at + 1
 
-field_is : (r : Reading) (next v n : ℕ) → field_of r next ≡ Number v n → (r ≡ reads v) × (n ≡ next)
-unfolding field_of
-field_is unread next v n e = let z : ◌≡◌ {A = ℕ} 0 1 = cc in let b : ⊥ = omega arith in absurd b
-field_is (reads w) next v n e = (cc, cc)
+digits_is : (r : Reading) (v : ℕ) → Some v ≡ digits_of r → r ≡ reads v
+unfolding digits_of
+digits_is unread v e = let z : ◌≡◌ {A = ℕ} 0 1 = cc in let b : ⊥ = omega arith in absurd b
+digits_is (reads w) v e = cc
 
-field-not : (r : Reading) (next : ℕ) → field_of r next ≡ NoNumber → r ≡ unread
-unfolding field_of
-field-not unread next e = refl
-field-not (reads w) next e = let z : ◌≡◌ {A = ℕ} 0 1 = cc in let b : ⊥ = omega arith in absurd b
+digits-not : (r : Reading) → None ≡ digits_of r → r ≡ unread
+unfolding digits_of
+digits-not unread e = refl
+digits-not (reads w) e = let z : ◌≡◌ {A = ℕ} 0 1 = cc in let b : ⊥ = omega arith in absurd b
 
 none_in : (v : ℕ) → number_in [] ≡ reads v → ⊥
 unfolding number_in digits_up_to
@@ -310,25 +301,16 @@ number-far text at v h e = go (ℕ_discrete at (end_of text at))
         absurd (none_in v f)
     go (no n) = differ at (end_of text at) (end-from text at) n
 
-pub number_is : (text : Text) (at v next : ℕ) → number_at text at ≡ Number v next → NumberIs text at v next
-number_is text at v next e = go (dec_le at (length text))
-  where
-    f : (first_number (fields_from text at) ≡ reads v) × (next ≡ end_of text at + 1)
-    f = field_is (first_number (fields_from text at)) (end_of text at + 1) v next (sym (number-first text at) ∙ e)
+pub number_is : (text : Text) (at v next : ℕ) → at ≤ length text → Some v ≡ number_at text at → next ≡ next_place text at → NumberIs text at v next
+number_is text at v next h e p =
+    let f = digits_is (first_number (fields_from text at)) v (e ∙ number-first text at) in
+    let q : next ≡ end_of text at + 1 = p ∙ place-in text at h in
+    let l : at < end_of text at = number-far text at v h f in
+    let w : end_of text at ≤ length text = end-within text at h in
+    record { first = f; others = ap (fields_from text) q ∙ rest_from text at; here = h; far = omega arith; near = omega arith; place = q }
 
-    go : Dec (at ≤ length text) → NumberIs text at v next
-    go (yes h) =
-        let l : at < end_of text at = number-far text at v h f.0 in
-        let w : end_of text at ≤ length text = end-within text at h in
-        record { first = f.0; others = ap (fields_from text) f.1 ∙ rest_from text at; here = h; far = omega (arith, f.1); near = omega (arith, f.1); place = f.1 }
-    go (no n) =
-        let z : ◌≡◌ {A = Field} (Number v next) NoNumber = sym e ∙ number_past text at (omega arith) in
-        let y : ◌≡◌ {A = ℕ} 0 1 = cc in
-        let b : ⊥ = omega arith in
-        absurd b
-
-pub number-is-not : (text : Text) (at : ℕ) → number_at text at ≡ NoNumber → first_number (fields_from text at) ≡ unread
-number-is-not text at e = field-not (first_number (fields_from text at)) (end_of text at + 1) (sym (number-first text at) ∙ e)
+pub number-is-not : (text : Text) (at : ℕ) → None ≡ number_at text at → first_number (fields_from text at) ≡ unread
+number-is-not text at e = digits-not (first_number (fields_from text at)) (e ∙ number-first text at)
 
 -- ---- all numbers that are left, after those in hand
 
@@ -360,7 +342,7 @@ module _ (k : ℕ) where
       → numbers_in (take (suc k) (fields_from text at)) ≡ one_more (reads v) (numbers_in (take k (fields_from text next)))
   numbers-next text at v next n = rw n.others (first_reads (fields_from text at) v n.first)
 
-  numbers-unread : (text : Text) (at : ℕ) → at ≤ length text → number_at text at ≡ NoNumber → numbers_in (take (suc k) (fields_from text at)) ≡ no_numbers
+  numbers-unread : (text : Text) (at : ℕ) → at ≤ length text → None ≡ number_at text at → numbers_in (take (suc k) (fields_from text at)) ≡ no_numbers
   numbers-unread text at h e =
       let f : number_in (field_at text at) ≡ unread = ap first_number (sym (fields-first text at h)) ∙ number-is-not text at e in
       ap (λ (l : List Text). numbers_in (take (suc k) l)) (fields-first text at h) ∙ first-unread (field_at text at) (fields_from text (end_of text at + 1)) f
@@ -438,23 +420,30 @@ module _ (text : Text) (from most : ℕ) (values : List ℕ) (count at : ℕ) (h
         place = h.place ∙ ap (λ (m : ℕ). place_after m text at) k ∙ place-next (most - (count + 1)) text at next n.here n.place;
       }
 
-  pub hand-unread : at ≤ length text → number_at text at ≡ NoNumber → (count ≡ most → ⊥) → none_from from ≡ numbers_at text from most
-  unfolding numbers_at numbers_of behind
+  pub hand-unread : at ≤ length text → None ≡ number_at text at → (count ≡ most → ⊥) → None ≡ numbers_of (numbers_in (take most (fields_from text from)))
+  unfolding numbers_of behind
   hand-unread l e other =
       let lt : count < most = differ count most h.few other in
       let k : most - count ≡ suc (most - (count + 1)) = omega arith in
       rw (h.all, k, numbers-unread (most - (count + 1)) text at l e)
 
-  hand-done : numbers_in (take (most - count) (fields_from text at)) ≡ numbers [] → place_after (most - count) text at ≡ at
-      → ◌≡◌ {A = ReadNumbers} (record { read = true; values = values; count = count; next = at }) (numbers_at text from most)
-  unfolding numbers_at numbers_of behind padded
-  hand-done e p =
+  hand-done : numbers_in (take (most - count) (fields_from text at)) ≡ numbers []
+      → ◌≡◌ {A = Option ReadNumbers} (Some (record { values = values; count = count })) (numbers_of (numbers_in (take most (fields_from text from))))
+  unfolding numbers_of behind padded
+  hand-done e =
       let n : length (take count values) ≡ count = length-take-le count values (omega (arith, h.full, h.room)) in
-      rw (h.all, e, append-nil (take count values), n, ← h.zeros, take-append-drop count values, h.place, p)
+      rw (h.all, e, append-nil (take count values), n, ← h.zeros, take-append-drop count values)
 
-  pub hand-full : count ≡ most → ◌≡◌ {A = ReadNumbers} (record { read = true; values = values; count = count; next = at }) (numbers_at text from most)
-  unfolding numbers_in place_after
-  hand-full e = let z : most - count ≡ 0 = omega arith in hand-done (rw z) (rw z)
+  pub hand-full : count ≡ most → ◌≡◌ {A = Option ReadNumbers} (Some (record { values = values; count = count })) (numbers_of (numbers_in (take most (fields_from text from))))
+  unfolding numbers_in
+  hand-full e = let z : most - count ≡ 0 = omega arith in hand-done (rw z)
 
-  pub hand_end : length text < at → ◌≡◌ {A = ReadNumbers} (record { read = true; values = values; count = count; next = at }) (numbers_at text from most)
-  hand_end l = hand-done (numbers-end (most - count) text at l) (place_end (most - count) text at l)
+  pub hand_end : length text < at → ◌≡◌ {A = Option ReadNumbers} (Some (record { values = values; count = count })) (numbers_of (numbers_in (take most (fields_from text from))))
+  hand_end l = hand-done (numbers-end (most - count) text at l)
+
+  pub place-full : count ≡ most → at ≡ place_after most text from
+  unfolding place_after
+  place-full e = let z : most - count ≡ 0 = omega arith in sym (rw (h.place, z))
+
+  pub place-past-end : length text < at → at ≡ place_after most text from
+  place-past-end l = sym (h.place ∙ place_end (most - count) text at l)

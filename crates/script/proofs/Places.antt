@@ -3,33 +3,28 @@
 use Prim.Native.Nat.{ℕ, zero, suc, ◌+◌, ◌-◌, ◌≤◌, ◌<◌}
 use native.Mathlib.Numerals.{add-one}
 use native.Mathlib.Omega.{arith}
-use native.Mathlib.Decide.{dec_le}
+use native.Mathlib.Decide.{dec_le, dec_lt}
 use mathlib.Core.Path.{◌≡◌, refl, ap, sym, ◌∙◌}
 use mathlib.Core.Bool.{Bool, true, false, cond}
 use mathlib.Core.List.{List, [], ◌∷◌}
 use lib.ListN.{length, get_or, take, drop, length-drop, drop_of_length-le}
-use lib.Seq.{drop-cons, drop-drop}
+use lib.Seq.{drop-cons, drop-drop, take_all, length-take-le}
 use lib.Dec.{eqb, leb}
-use borrow.Author.Tests.{le-leb, lt-leb}
+use borrow.Author.Tests.{le-leb, lt-leb, le-ltb, lt-ltb}
+use Rattle.std.specs.Prelude.{◌==◌, Option}
+use Rattle.std.specs.Option.{unwrap_or}
+use Rattle.std.specs.List.{position, position_or_len}
+use Rattle.std.proofs.lemmas.List.Recursion.{is_position_or_len}
 use Rattle.rules.specs.Script.{Text, space, parts_at, with_head}
 use Rattle.script.specs.Fields.{word_length, end_of, field_at, fields_from}
 
 -- ---- where a field ends
 
-module _ (text : Text) (i : ℕ) where
-  pub end-space : i < length text → eqb (get_or text i 0) space ≡ true → i + word_length (drop i text) ≡ i
-  unfolding word_length
-  end-space h e = rw (drop-cons text i 0 h, e) (omega arith)
+word-first : (cs : Text) → word_length cs ≡ position_or_len (λ b. b == 32) cs
+unfolding word_length
+word-first cs = is_position_or_len word_length (λ b. b == 32) refl (λ x xs. let e : suc (word_length xs) ≡ 1 + word_length xs = omega arith in rw e) cs
 
-  pub end-next : i < length text → eqb (get_or text i 0) space ≡ false → i + word_length (drop i text) ≡ i + 1 + word_length (drop (i + 1) text)
-  unfolding word_length
-  end-next h e = rw (drop-cons text i 0 h, e, add-one i) (omega arith)
-
-  pub end-end : length text ≤ i → i + word_length (drop i text) ≡ i
-  unfolding word_length
-  end-end h = rw (drop_of_length-le text {i = i} h) (omega arith)
-
-word-le : (cs : Text) → word_length cs ≤ length cs
+pub word-le : (cs : Text) → word_length cs ≤ length cs
 unfolding word_length
 word-le [] = omega arith
 word-le (c ∷ cs) = go (eqb c space) (word-le cs)
@@ -42,13 +37,19 @@ pub end-within : (text : Text) (at : ℕ) → at ≤ length text → end_of text
 unfolding end_of
 end-within text at h = omega (arith, word-le (drop at text), length-drop at text)
 
--- a place that is a field's end lies within the line
-pub end-in : (text : Text) (at n : ℕ) → at ≤ length text → n ≡ end_of text at → n ≤ length text
-end-in text at n h e = rw e (end-within text at h)
-
 pub end-from : (text : Text) (at : ℕ) → at ≤ end_of text at
 unfolding end_of
 end-from text at = omega arith
+
+-- as the code finds it
+word-found : (cs : Text) → unwrap_or (position (λ b. b == 32) cs) (length cs) ≡ word_length cs
+word-found cs = go (dec_lt (position_or_len (λ b. b == 32) cs) (length cs))
+  where
+    go : Dec (position_or_len (λ b. b == 32) cs < length cs) → unwrap_or (position (λ b. b == 32) cs) (length cs) ≡ word_length cs
+    go (yes h) = rw (lt-ltb (position_or_len (λ b. b == 32) cs) (length cs) h) (sym (word-first cs))
+    go (no n) =
+        let l : length cs ≤ position_or_len (λ b. b == 32) cs = omega arith in
+        rw (le-ltb (position_or_len (λ b. b == 32) cs) (length cs) l) (omega (arith, word-le cs, word-first cs))
 
 -- ---- tests that agree
 
@@ -84,7 +85,7 @@ parts_first (c ∷ cs) = go (eqb c space) (parts_first cs)
     go true e = ap (λ (l : List Text). [] ∷ l) (sym (fields-cons c cs 0 ∙ fields-zero cs))
     go false e = ap (with_head c) e ∙ ap (λ (l : List Text). (c ∷ take (word_length cs) cs) ∷ l) (sym (fields-cons c cs (suc (word_length cs))))
 
-drop-take : (n w : ℕ) (l : Text) → take w (drop n l) ≡ drop n (take (n + w) l)
+pub drop-take : (n w : ℕ) (l : Text) → take w (drop n l) ≡ drop n (take (n + w) l)
 drop-take zero w l = ap (λ (k : ℕ). take k l) (zero-plus w)
   where
     zero-plus : (w : ℕ) → w ≡ zero + w
@@ -119,3 +120,27 @@ fields-first text at h =
 pub fields-none : (text : Text) (at : ℕ) → length text < at → fields_from text at ≡ []
 unfolding fields_from
 fields-none text at h = rw (lt-leb at (length text) h)
+
+-- ---- the field at a place, cut out of the line
+
+module _ (text : Text) (at n : ℕ) (h : at ≤ length text) (o : Option ℕ)
+    (f : o ≡ position (λ b. b == 32) (take (length text - at) (drop at text))) (e : n ≡ unwrap_or o (length (take (length text - at) (drop at text)))) where
+  rest-all : take (length text - at) (drop at text) ≡ drop at text
+  rest-all = take_all (length text - at) (drop at text) (omega (arith, length-drop at text))
+
+  word-is : n ≡ word_length (drop at text)
+  word-is = rw f at e ∙ word-found (take (length text - at) (drop at text)) ∙ ap word_length rest-all
+
+  pub word-within : at + n ≤ length text
+  word-within = omega (arith, word-is, word-le (drop at text), length-drop at text)
+
+  pub word-end : at + (n + 1) ≡ end_of text at + 1
+  unfolding end_of
+  word-end = omega (arith, word-is)
+
+  pub word-field : take n (take (length text - at) (drop at text)) ≡ field_at text at
+  unfolding field_at end_of
+  word-field = rw (rest-all, word-is) (drop-take at (word_length (drop at text)) text)
+
+  pub word-long : n ≡ length (take n (take (length text - at) (drop at text)))
+  word-long = sym (length-take-le n (take (length text - at) (drop at text)) (rw rest-all (omega (arith, word-is, word-le (drop at text)))))

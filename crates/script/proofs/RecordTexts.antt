@@ -33,10 +33,6 @@ unfolding hex_before
 hex-more zero n h = absurd (h refl)
 hex-more (suc p) n h = let e : suc p - 1 ≡ p = omega arith in rw e (sym (hex-append p (n / 16) (hex_digit (n % 16) ∷ [])))
 
-pub nan-bits : (x : Float) → x ≡ nan → 9221120237041090560 ≡ to_bits binary64 x
-unfolding to_bits
-nan-bits x e = rw e
-
 pub bits-parts : (x : Float) → ((32 ∷ 48 ∷ []) ++ (120 ∷ [])) ++ hex_before 16 (to_bits binary64 x) [] ≡ bits_word x
 unfolding bits_word bytes
 bits-parts x = refl

@@ -12,8 +12,7 @@ use Rattle.rules.specs.declared.Position.{Position}
 use Rattle.rules.specs.declared.Edit.{Edit}
 use Rattle.rules.specs.declared.Edit.TheVariants.{VertexInsert, FaceRemove, FaceSplit, FacePoke, FaceBridge, FaceExtrude, ArcBridge, ArcExtrude}
 use Rattle.rules.specs.Script.{Text, Reading, unread, reads, Numbers, no_numbers, numbers, Point, no_point, point, Line, unreadable, says, one_more, number_in, numbers_in, point_in, numbers_make, numbered, point_makes, pointed, keys_make, shift, line_of, line_from, line_in}
-use Rattle.script.specs.declared.Said.{Said}
-use Rattle.script.specs.declared.Said.TheVariants.{Unreadable, Says}
+use Rattle.std.specs.Prelude.{Option, Some, None, IfSome}
 use Rattle.script.specs.declared.Parsed.{Parsed}
 use Rattle.script.specs.Fields.{end_of, field_at, fields_from, padded}
 use Rattle.script.specs.Lines.{parsed_of}
@@ -23,33 +22,17 @@ use Rattle.script.proofs.Says.{line-short, line-long}
 
 -- ---- the line, of what was read
 
-module _ (l : Line) (r : Parsed) where
-  pub says_is : (e : Edit) → r ≡ parsed_of l → r.said ≡ Says e → l ≡ says e (take r.count r.keys)
-  says_is e h s = go l h
-    where
-      go : (l : Line) → r ≡ parsed_of l → l ≡ says e (take r.count r.keys)
-      go unreadable h = unfold parsed_of in
-          (let t : ◌≡◌ {A = Said} Unreadable (Says e) = sym (ap (λ (x : Parsed). x.said) h) ∙ s in
-          let z : ◌≡◌ {A = ℕ} 0 1 = cc in
-          let b : ⊥ = omega arith in
-          absurd b)
-      go (says d ks) h = unfold parsed_of in unfold padded in
-          (let t : ◌≡◌ {A = Said} (Says d) (Says e) = sym (ap (λ (x : Parsed). x.said) h) ∙ s in
-          let de : d ≡ e = cc in
-          let n : r.count ≡ length ks = ap (λ (x : Parsed). x.count) h in
-          let k : r.keys ≡ ks ++ replicate (256 - length ks) 0 = ap (λ (x : Parsed). x.keys) h in
-          rw (de, n, k, take-append_seam ks (replicate (256 - length ks) 0)))
+pub says_is : (l : Line) (r : Parsed) → Some r ≡ parsed_of l → l ≡ says r.edit (take r.count r.keys)
+unfolding parsed_of padded
+says_is unreadable r h = let z : ◌≡◌ {A = ℕ} 0 1 = cc in let b : ⊥ = omega arith in absurd b
+says_is (says d ks) r h =
+    let e : ◌≡◌ {A = Parsed} r (record { edit = d; keys = ks ++ replicate (256 - length ks) 0; count = length ks }) = cc in
+    rw (ap (λ (x : Parsed). x.edit) e, ap (λ (x : Parsed). x.count) e, ap (λ (x : Parsed). x.keys) e, take-append_seam ks (replicate (256 - length ks) 0))
 
-  pub says-not : r ≡ parsed_of l → r.said ≡ Unreadable → l ≡ unreadable
-  says-not h s = go l h
-    where
-      go : (l : Line) → r ≡ parsed_of l → l ≡ unreadable
-      go unreadable h = refl
-      go (says d ks) h = unfold parsed_of in
-          (let t : ◌≡◌ {A = Said} (Says d) Unreadable = sym (ap (λ (x : Parsed). x.said) h) ∙ s in
-          let z : ◌≡◌ {A = ℕ} 0 1 = cc in
-          let b : ⊥ = omega arith in
-          absurd b)
+pub says-not : (l : Line) → None ≡ parsed_of l → l ≡ unreadable
+unfolding parsed_of
+says-not unreadable h = refl
+says-not (says d ks) h = let z : ◌≡◌ {A = ℕ} 0 1 = cc in let b : ⊥ = omega arith in absurd b
 
 -- ---- how many keys a line has
 
@@ -162,10 +145,10 @@ line-few text = go (dec_le (length text) 512)
     go (yes h) = rw (line-short text h) (first-few text (field_at text 0) h refl)
     go (no n) = rw (line-long text (omega arith)) (omega arith)
 
-count-is : (l : Line) → (parsed_of l).count ≡ keys_count l
+few-in : (l : Line) → keys_count l ≤ 254 → IfSome (parsed_of l) (λ r. r.count ≤ 254)
 unfolding parsed_of keys_count
-count-is unreadable = refl
-count-is (says e ks) = refl
+few-in unreadable h = tt
+few-in (says e ks) h = h
 
-pub few : (text : Text) (r : Parsed) → r ≡ parsed_of (line_in text) → r.count ≤ 254
-few text r h = let e : r.count ≡ keys_count (line_in text) = ap (λ (x : Parsed). x.count) h ∙ count-is (line_in text) in rw e (line-few text)
+pub few : (text : Text) (r : Option Parsed) → r ≡ parsed_of (line_in text) → IfSome r (λ p. p.count ≤ 254)
+few text r h = rw h (few-in (line_in text) (line-few text))

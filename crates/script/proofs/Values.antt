@@ -3,14 +3,16 @@ use Prim.Native.Nat.{ℕ, zero, suc, ◌+◌, ◌-◌, ◌*◌, ◌^◌, ◌≤�
 use native.Mathlib.Omega.{arith}
 use mathlib.Core.Path.{◌≡◌, refl, ap, sym, ◌∙◌}
 use mathlib.Core.Bool.{Bool, true, false, cond, ◌&&◌}
+use mathlib.Core.Logic.{◌⊎◌, inl, inr}
 use mathlib.Core.List.{[], ◌∷◌}
 use native.Mathlib.Numerals.{add-one}
-use lib.ListN.{length, get_or, take, drop_of_length-le}
-use lib.Seq.{slice, slice-cons, length-take-le}
-use lib.Dec.{leb, ltb}
+use lib.ListN.{length, get_or, drop, drop_of_length-le}
+use lib.Seq.{drop-cons}
+use lib.Dec.{leb, ltb, eqb-suc-zero}
 use lib.IntN.{pos, neg_ℤ}
 use lib.Ieee.{inf, Format, binary64, odd, units, round, neg, of_int, emax, low, prec}
 use borrow.Author.Tests.{le-leb, lt-leb}
+use Rattle.std.specs.Prelude.{◌==◌}
 use Rattle.rules.specs.Table.{every}
 use Rattle.rules.specs.Script.{Text, Reading, unread, reads, is_digit, value_from, digits_up_to, float_of}
 
@@ -100,32 +102,45 @@ pub float_zero : (n : ℕ) → n ≡ 0 → of_int binary64 (pos n) ≡ float_of 
 unfolding float_of
 float_zero n e = rw e
 
--- ---- the digits from a place of a line up to an end
+pub signless : (minus : Bool) (n : ℕ) → (minus ≡ false) ⊎ ((minus ≡ true) × (n ≡ 0)) → of_int binary64 (pos n) ≡ float_of (cond minus (neg_ℤ (pos n)) (pos n))
+unfolding float_of
+signless minus n (inl e) = rw e
+signless minus n (inr e) = rw (e.0, e.1)
 
-slice-none : (text : Text) (i end : ℕ) → end ≤ i → end ≤ length text → slice i end text ≡ []
-slice-none text i end h le = drop_of_length-le (take end text) {i = i} (rw (length-take-le end text le) h)
+-- ---- the digits from a place on
 
-module _ (text : Text) (i end limit v : ℕ) (lt : i < end) (le : end ≤ length text) where
-  at-hand : slice i end text ≡ get_or text i 0 ∷ slice (i + 1) end text
-  at-hand = rw (add-one i) (slice-cons i end text 0 lt le)
+-- what is_empty tells
+pub none-is : (n : ℕ) → true ≡ (n == 0) → n ≡ 0
+none-is zero e = refl
+none-is (suc n) e = let t : ◌≡◌ {A = Bool} true false = e ∙ eqb-suc-zero n in let z : ◌≡◌ {A = ℕ} 0 1 = cc in let b : ⊥ = omega arith in absurd b
 
-  pub here-low : get_or text i 0 < 48 → digits_on limit v (slice i end text) ≡ unread
-  here-low h = ap (digits_on limit v) at-hand ∙ digits_low limit v (get_or text i 0) (slice (i + 1) end text) h
+pub some-is : (n : ℕ) → false ≡ (n == 0) → n ≡ 0 → ⊥
+some-is zero e h = let z : ◌≡◌ {A = ℕ} 0 1 = cc in omega arith
+some-is (suc n) e h = omega arith
 
-  pub here-high : 57 < get_or text i 0 → digits_on limit v (slice i end text) ≡ unread
-  here-high h = ap (digits_on limit v) at-hand ∙ digits-high limit v (get_or text i 0) (slice (i + 1) end text) h
+pub digits-begun : (limit : ℕ) (field : Text) → (length field ≡ 0 → ⊥) → digits_up_to limit field ≡ digits_on limit 0 field
+digits-begun limit [] h = absurd (h refl)
+digits-begun limit (c ∷ cs) h = digits-begin limit c cs
 
-  pub here-next : 48 ≤ get_or text i 0 → get_or text i 0 ≤ 57 → digits_on limit v (slice i end text) ≡ digits_on limit (v * 10 + (get_or text i 0 - 48)) (slice (i + 1) end text)
-  here-next l h = ap (digits_on limit v) at-hand ∙ digits-next limit v (get_or text i 0) (slice (i + 1) end text) l h
+pub here-none : (limit : ℕ) (field : Text) → length field ≡ 0 → digits_up_to limit field ≡ unread
+here-none limit [] h = digits-none limit
+here-none limit (c ∷ cs) h = let b : ⊥ = omega arith in absurd b
 
-  pub here-over : 48 ≤ get_or text i 0 → get_or text i 0 ≤ 57 → limit < v * 10 + (get_or text i 0 - 48) → digits_on limit v (slice i end text) ≡ unread
-  here-over l h o = here-next l h ∙ digits-over limit (v * 10 + (get_or text i 0 - 48)) (slice (i + 1) end text) o
+module _ (field : Text) (i limit v : ℕ) (lt : i < length field) where
+  at-hand : drop i field ≡ get_or field i 0 ∷ drop (i + 1) field
+  at-hand = rw (add-one i) (drop-cons field i 0 lt)
 
-  pub here-begin : digits_up_to limit (slice i end text) ≡ digits_on limit 0 (slice i end text)
-  here-begin = ap (digits_up_to limit) at-hand ∙ digits-begin limit (get_or text i 0) (slice (i + 1) end text) ∙ sym (ap (digits_on limit 0) at-hand)
+  pub here-low : get_or field i 0 < 48 → digits_on limit v (drop i field) ≡ unread
+  here-low h = ap (digits_on limit v) at-hand ∙ digits_low limit v (get_or field i 0) (drop (i + 1) field) h
 
-pub here_end : (text : Text) (i end limit v : ℕ) → end ≤ i → v ≤ limit → end ≤ length text → digits_on limit v (slice i end text) ≡ reads v
-here_end text i end limit v h l le = ap (digits_on limit v) (slice-none text i end h le) ∙ digits-end limit v l
+  pub here-high : 57 < get_or field i 0 → digits_on limit v (drop i field) ≡ unread
+  here-high h = ap (digits_on limit v) at-hand ∙ digits-high limit v (get_or field i 0) (drop (i + 1) field) h
 
-pub here-none : (text : Text) (i end limit : ℕ) → end ≤ i → end ≤ length text → digits_up_to limit (slice i end text) ≡ unread
-here-none text i end limit h le = ap (digits_up_to limit) (slice-none text i end h le) ∙ digits-none limit
+  pub here-next : 48 ≤ get_or field i 0 → get_or field i 0 ≤ 57 → digits_on limit v (drop i field) ≡ digits_on limit (v * 10 + (get_or field i 0 - 48)) (drop (i + 1) field)
+  here-next l h = ap (digits_on limit v) at-hand ∙ digits-next limit v (get_or field i 0) (drop (i + 1) field) l h
+
+  pub here-over : 48 ≤ get_or field i 0 → get_or field i 0 ≤ 57 → limit < v * 10 + (get_or field i 0 - 48) → digits_on limit v (drop i field) ≡ unread
+  here-over l h o = here-next l h ∙ digits-over limit (v * 10 + (get_or field i 0 - 48)) (drop (i + 1) field) o
+
+pub here_end : (field : Text) (i limit v : ℕ) → length field ≤ i → v ≤ limit → digits_on limit v (drop i field) ≡ reads v
+here_end field i limit v h l = ap (digits_on limit v) (drop_of_length-le field {i = i} h) ∙ digits-end limit v l

@@ -1,18 +1,11 @@
 -- The fields of a line by the places at which they begin, and what the code makes of a field that the rules' definitions read.
 -- A place past the line's end means that no field is left.
-use Rattle.std.specs.Prelude.{ℕ, zero, suc, ◌+◌, ◌-◌, Bool, true, false, cond, List, [], ◌∷◌, ◌++◌, length, replicate, take, drop, eqb, leb, pos, neg_ℤ}
+use Rattle.std.specs.Prelude.{◌≡◌, ℕ, zero, suc, ◌+◌, ◌-◌, ◌<◌, cond, Option, Some, None, List, [], ◌∷◌, ◌++◌, length, replicate, drop, eqb, leb, Float}
 use Rattle.std.proofs.Math.Seq.{slice}
 use Rattle.rules.specs.Script.{Text, Reading, unread, reads, Whole, no_whole, whole, Numbers, no_numbers, numbers, Point, no_point, point, space, parts_at, number_in, coordinate_in, float_of, numbers_in}
-use Rattle.script.specs.declared.Letter.{Letter}
-use Rattle.script.specs.declared.Digits.{Digits}
-use Rattle.script.specs.declared.Digits.TheVariants.{Value, Unread}
-use Rattle.script.specs.declared.Field.{Field}
-use Rattle.script.specs.declared.Field.TheVariants.{Number, NoNumber}
-use Rattle.script.specs.declared.Offset.{Offset}
-use Rattle.script.specs.declared.Offset.TheVariants.{Coordinate, NoCoordinate}
-use Rattle.script.specs.declared.Spot.{Spot}
-use Rattle.script.specs.declared.Spot.TheVariants.{At, Nowhere}
+use Rattle.script.specs.declared.reader.Line.{Line}
 use Rattle.script.specs.declared.Numbers.{Numbers as ReadNumbers}
+use Rattle.rules.specs.declared.Position.{Position}
 
 -- ---- places
 
@@ -37,58 +30,54 @@ unfoldable pub place_after : ℕ → Text → ℕ → ℕ
 place_after zero text at = at
 place_after (suc n) text at = let later = place_after n text (end_of text at + 1) in cond (leb at (length text)) later at
 
+-- the place of the next field: past the line's end the place at hand
+unfoldable pub next_place : Text → ℕ → ℕ
+next_place text at = cond (leb at (length text)) (end_of text at + 1) at
+
+-- no field is left
+abbrev pub NoField : Text → ℕ → Type 0
+NoField text at = length text < at
+
+-- a reader that moved on has the same line
+pub record Stays (l m : Line) : Type 0 where
+  pub same_text : m.text ≡ l.text
+
 -- ---- one field
 
--- the letter that a field is: 0, with which no line begins, where the field is not one byte
-unfoldable pub letter_of : Text → ℕ
-letter_of [] = 0
-letter_of (c ∷ []) = c
-letter_of (c ∷ d ∷ cs) = 0
+-- the letter that a field is, where it is one byte
+unfoldable pub letter_of : Text → Option ℕ
+letter_of [] = None
+letter_of (c ∷ []) = Some c
+letter_of (c ∷ d ∷ cs) = None
 
-unfoldable pub letter_at : Text → ℕ → Letter
-letter_at text at =
-    cond (leb at (length text)) (record { byte = letter_of (field_at text at); next = end_of text at + 1 }) (record { byte = 0; next = at })
+unfoldable pub digits_of : Reading → Option ℕ
+digits_of unread = None
+digits_of (reads v) = Some v
 
-unfoldable pub digits_of : Reading → Digits
-digits_of unread = Unread
-digits_of (reads v) = Value v
+unfoldable pub offset_of : Whole → Option Float
+offset_of no_whole = None
+offset_of (whole n) = Some (float_of n)
 
-unfoldable pub field_of : Reading → ℕ → Field
-field_of unread next = NoNumber
-field_of (reads v) next = Number v next
+-- at a place
+unfoldable pub letter_at : Text → ℕ → Option ℕ
+letter_at text at = cond (leb at (length text)) (letter_of (field_at text at)) None
 
-unfoldable pub number_at : Text → ℕ → Field
-number_at text at = cond (leb at (length text)) (field_of (number_in (field_at text at)) (end_of text at + 1)) NoNumber
+unfoldable pub number_at : Text → ℕ → Option ℕ
+number_at text at = cond (leb at (length text)) (digits_of (number_in (field_at text at))) None
 
-unfoldable pub signed_of : Bool → Digits → ℕ → Offset
-signed_of minus Unread next = NoCoordinate
-signed_of minus (Value v) next = Coordinate (float_of (cond minus (neg_ℤ (pos v)) (pos v))) next
-
-unfoldable pub offset_of : Whole → ℕ → Offset
-offset_of no_whole next = NoCoordinate
-offset_of (whole n) next = Coordinate (float_of n) next
-
-unfoldable pub coordinate_at : Text → ℕ → Offset
-coordinate_at text at = cond (leb at (length text)) (offset_of (coordinate_in (field_at text at)) (end_of text at + 1)) NoCoordinate
+unfoldable pub coordinate_at : Text → ℕ → Option Float
+coordinate_at text at = cond (leb at (length text)) (offset_of (coordinate_in (field_at text at))) None
 
 -- ---- the fields that are left
 
-unfoldable pub spot_of : Point → Spot
-spot_of no_point = Nowhere
-spot_of (point p) = At p
+unfoldable pub spot_of : Point → Option Position
+spot_of no_point = None
+spot_of (point p) = Some p
 
 -- a list of numbers in 256 places, those past its end 0
 unfoldable pub padded : List ℕ → List ℕ
 padded ns = ns ++ replicate (256 - length ns) 0
 
-abbrev pub none_from : ℕ → ReadNumbers
-none_from from = record { read = false; values = replicate 256 0; count = 0; next = from }
-
--- numbers that are read from a place up to another
-unfoldable pub numbers_of : Numbers → ℕ → ℕ → ReadNumbers
-numbers_of no_numbers from next = none_from from
-numbers_of (numbers ns) from next = record { read = true; values = padded ns; count = length ns; next = next }
-
--- the numbers from a place on, at most so many
-unfoldable pub numbers_at : Text → ℕ → ℕ → ReadNumbers
-numbers_at text at most = numbers_of (numbers_in (take most (fields_from text at))) at (place_after most text at)
+unfoldable pub numbers_of : Numbers → Option ReadNumbers
+numbers_of no_numbers = None
+numbers_of (numbers ns) = Some (record { values = padded ns; count = length ns })

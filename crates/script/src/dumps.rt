@@ -11,6 +11,7 @@ ghost use Rattle.script.specs.Dumps as D;
 
 use crate::{Name, texts};
 use rules::Position;
+use tables::points;
 
 // ---- words
 
@@ -38,16 +39,6 @@ fn put_hex(out: &mut [u8], at: usize, places: usize, n: u64) -> usize
     texts::put_byte(out, next, hex_digit(n % 16))
 }
 
-// The 64 bits of a number, and for a NaN the one pattern that is written for it.
-fn bits_of(x: f64) -> u64
-    ensures { result ≡ to_bits binary64 x }
-{
-    if x != x {
-        return 0x7ff8000000000000;
-    }
-    f64::to_bits(x)
-}
-
 // A coordinate's bits, after a space.
 fn put_bits(out: &mut [u8], at: usize, x: f64) -> usize
     requires { at + 19 ≤ length out.old }
@@ -56,7 +47,7 @@ fn put_bits(out: &mut [u8], at: usize, x: f64) -> usize
 {
     let prefix = texts::put_two(out, at, b' ', b'0');
     let digits = texts::put_byte(out, prefix, b'x');
-    put_hex(out, digits, 16, bits_of(x))
+    put_hex(out, digits, 16, points::bits_of(x))
 }
 
 // The three coordinates of a position.

@@ -6,7 +6,7 @@
 
 use rules::{Edit, Position};
 
-pub mod fields; // fields.rt: the fields of a line, one after the other
+pub mod fields; // fields.rt: the letter, number or coordinate that a field is
 pub mod reader; // reader.rt: a line and the place reached in it
 pub mod lines; // lines.rt: a whole line
 pub mod texts; // texts.rt: what is written
@@ -17,84 +17,25 @@ pub const LINE: usize = 512;
 
 pub const KEYS: usize = 256;
 
-// Digits as a number that is at most a limit, or none.
-#[derive(Clone, Copy)]
-pub enum Digits {
-    Value(u32),
-    Unread,
-}
-
-// The letter that a field is, with the place of the next field: 0, with which no line begins, where the field is not one byte.
-#[derive(Clone, Copy)]
-pub struct Letter {
-    pub byte: u8,
-    pub next: usize,
-}
-
-// The number in a field, with the place of the next field; or no number, or no field.
-#[derive(Clone, Copy)]
-pub enum Field {
-    Number(u32, usize),
-    NoNumber,
-}
-
-// The coordinate in a field, with the place of the next field; or none.
-#[derive(Clone, Copy)]
-pub enum Offset {
-    Coordinate(f64, usize),
-    NoCoordinate,
-}
-
-// Three coordinates and nothing after them, or else nothing.
-#[derive(Clone, Copy)]
-pub enum Spot {
-    At(Position),
-    Nowhere,
-}
-
-// Numbers in fields one after the other, with the place of the next field: so many of them, and the places from count on are 0.
-// Where a field is no number, none are read, and the place is that of the first field.
+// Numbers in fields one after the other: so many of them, and the places from count on are 0.
 #[derive(Clone, Copy)]
 pub struct Numbers {
-    pub read: bool,
     pub values: [u32; KEYS],
     pub count: usize,
-    pub next: usize,
 }
 
-// What stands on a line: its letter, the numbers after it, and the point after those.
+// What stands on a line: its letter, the numbers after it, and the point after those, if there is one.
 #[derive(Clone, Copy)]
 pub struct Contents {
     pub letter: u8,
     pub numbers: Numbers,
-    pub spot: Spot,
+    pub spot: Option<Position>,
 }
 
-// Exactly so many numbers and nothing after them, 0 past the last; or else nothing.
-#[derive(Clone, Copy)]
-pub enum Exact {
-    Four(u32, u32, u32, u32),
-    Otherwise,
-}
-
-// At most two numbers, 0 past the last, and then three coordinates and nothing after them; or else nothing.
-#[derive(Clone, Copy)]
-pub enum Aim {
-    To(u32, u32, Position),
-    Aimless,
-}
-
-// What a line says: an edit, or nothing that can be read.
-#[derive(Clone, Copy)]
-pub enum Said {
-    Unreadable,
-    Says(Edit),
-}
-
-// What a line says with its keys: so many of them, and the places from count on are 0.
+// What a line says, with its keys: so many of them, and the places from count on are 0.
 #[derive(Clone, Copy)]
 pub struct Parsed {
-    pub said: Said,
+    pub edit: Edit,
     pub keys: [u32; KEYS],
     pub count: usize,
 }

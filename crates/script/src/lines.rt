@@ -3,13 +3,13 @@
 // `s F a b`; `p F x y z`; `b F G`; `j a b c d` (arc bridge); `x F dx dy dz` and `a s d dx dy dz` (shifts)". Every line is read with
 // the reader of reader.rt, which is made once for it (contents_of); what it says is told from what was read.
 
-ghost use Rattle.std.specs.Prelude.{◌≡◌, List, [], ◌∷◌, ℕ, ◌≤◌, length, take, drop};
+ghost use Rattle.std.specs.Prelude.{◌≡◌, List, [], ◌∷◌, ℕ, ◌≤◌, IfSome, length, take, drop};
 ghost use Rattle.rules.specs.Script as S;
 ghost use Rattle.script.specs.Fields.{padded};
 ghost use Rattle.script.specs.Lines as L;
 
 use crate::reader::Line;
-use crate::{Aim, Contents, Exact, KEYS, LINE, Parsed, Said, Spot, reader};
+use crate::{Contents, KEYS, LINE, Parsed};
 use rules::{Edit, Move, Position};
 
 // ---- what stands on a line
@@ -27,46 +27,32 @@ fn most_numbers(letter: u8) -> usize
     }
 }
 
-// What stands on a line. The reader is made of the line once; what is read tells the place that is reached, and it moves on there.
-fn contents_of(text: &[u8]) -> Contents
+// What stands on a line. The reader is made of the line once, and moves on with each thing that it reads.
+fn contents_of(text: &[u8]) -> Option<Contents>
     requires { length text.now ≤ 512 }
     ensures { result ≡ L.contents_of text.now }
 {
     let mut line = Line { text, at: 0 };
-    let letter = reader::read_letter(line);
-    line.at = letter.next;
-    let numbers = reader::read_numbers(line, most_numbers(letter.byte));
-    line.at = numbers.next;
-    let spot = reader::read_spot(line);
-    Contents {
-        letter: letter.byte,
+    let letter = line.letter()?;
+    let numbers = line.numbers(most_numbers(letter))?;
+    Some(Contents {
+        letter,
         numbers,
-        spot,
-    }
+        spot: line.spot(),
+    })
 }
 
 // ---- what a line says
 
-// Nothing that can be read.
-fn unreadable() -> Parsed
-    ensures { result ≡ L.parsed_of S.unreadable }
-{
-    Parsed {
-        said: Said::Unreadable,
-        keys: [0; KEYS],
-        count: 0,
-    }
-}
-
 // An edit that has no keys beside it.
-fn says(edit: Edit) -> Parsed
+fn says(edit: Edit) -> Option<Parsed>
     ensures { result ≡ L.parsed_of (S.says edit []) }
 {
-    Parsed {
-        said: Said::Says(edit),
+    Some(Parsed {
+        edit,
         keys: [0; KEYS],
         count: 0,
-    }
+    })
 }
 
 // A point as a shift.
@@ -78,36 +64,26 @@ fn shift(p: Position) -> Move
 
 // ---- what stands after the letter
 
-// Exactly n numbers, at most four.
-fn exactly(contents: Contents, n: usize) -> Exact
+// Exactly n numbers, at most four, and 0 past the last.
+fn exactly(contents: Contents, n: usize) -> Option<[u32; 4]>
     ensures { (fields : List S.Text) → L.Holds contents 512 fields → result ≡ L.exactly_of n (S.numbers_in fields) }
 {
     let all = contents.numbers;
-    if !all.read {
-        return Exact::Otherwise;
-    }
     if all.count != n {
-        return Exact::Otherwise;
+        return None;
     }
     let k = all.values;
-    Exact::Four(k[0], k[1], k[2], k[3])
+    Some([k[0], k[1], k[2], k[3]])
 }
 
-// At most two numbers and a point.
-fn aimed(contents: Contents) -> Aim
+// At most two numbers, 0 past the last, and a point.
+fn aimed(contents: Contents) -> Option<(u32, u32, Position)>
     ensures { (n : ℕ) (fields : List S.Text) → L.Holds contents n fields
         → result ≡ L.aim_of (S.numbers_in (take n fields)) (S.point_in (drop n fields)) }
 {
-    let first = contents.numbers;
-    if !first.read {
-        return Aim::Aimless;
-    }
-    let spot = contents.spot;
-    let k = first.values;
-    match spot {
-        Spot::At(p) => Aim::To(k[0], k[1], p),
-        Spot::Nowhere => Aim::Aimless,
-    }
+    let p = contents.spot?;
+    let k = contents.numbers.values;
+    Some((k[0], k[1], p))
 }
 
 // The numbers after the first, 0 past the last.
@@ -115,119 +91,96 @@ fn after_first(values: [u32; KEYS]) -> [u32; KEYS]
     ensures { (n : ℕ) (ns : List ℕ) → values ≡ padded (n ∷ ns) → result ≡ padded ns }
 {
     let mut keys = [0u32; KEYS];
-    let mut i: usize = 0;
-    while i + 1 < KEYS {
-        keys[i] = values[i + 1];
-        i += 1;
-    }
+    keys[..KEYS - 1].copy_from_slice(&values[1..]);
     keys
 }
 
 // ---- the nine letters
 
 // v x y z
-fn vertex_insert(contents: Contents) -> Parsed
+fn vertex_insert(contents: Contents) -> Option<Parsed>
     ensures { L.Tells 118 contents result }
 {
-    match aimed(contents) {
-        Aim::To(_, _, p) => says(Edit::VertexInsert(p)),
-        Aim::Aimless => unreadable(),
-    }
+    let (_, _, p) = aimed(contents)?;
+    says(Edit::VertexInsert(p))
 }
 
 // f mark keys
-fn face_insert(contents: Contents) -> Parsed
+fn face_insert(contents: Contents) -> Option<Parsed>
     ensures { L.Tells 102 contents result }
 {
     let all = contents.numbers;
-    if !all.read {
-        return unreadable();
-    }
     if all.count == 0 {
-        return unreadable();
+        return None;
     }
     let values = all.values;
-    Parsed {
-        said: Said::Says(Edit::FaceInsert(values[0])),
+    Some(Parsed {
+        edit: Edit::FaceInsert(values[0]),
         keys: after_first(values),
         count: all.count - 1,
-    }
+    })
 }
 
 // r F
-fn face_remove(contents: Contents) -> Parsed
+fn face_remove(contents: Contents) -> Option<Parsed>
     ensures { L.Tells 114 contents result }
 {
-    match exactly(contents, 1) {
-        Exact::Four(f, _, _, _) => says(Edit::FaceRemove(f)),
-        Exact::Otherwise => unreadable(),
-    }
+    let [f, _, _, _] = exactly(contents, 1)?;
+    says(Edit::FaceRemove(f))
 }
 
 // s F a b
-fn face_split(contents: Contents) -> Parsed
+fn face_split(contents: Contents) -> Option<Parsed>
     ensures { L.Tells 115 contents result }
 {
-    match exactly(contents, 3) {
-        Exact::Four(f, a, b, _) => says(Edit::FaceSplit(f, a, b)),
-        Exact::Otherwise => unreadable(),
-    }
+    let [f, a, b, _] = exactly(contents, 3)?;
+    says(Edit::FaceSplit(f, a, b))
 }
 
 // p F x y z
-fn face_poke(contents: Contents) -> Parsed
+fn face_poke(contents: Contents) -> Option<Parsed>
     ensures { L.Tells 112 contents result }
 {
-    match aimed(contents) {
-        Aim::To(f, _, p) => says(Edit::FacePoke(f, p)),
-        Aim::Aimless => unreadable(),
-    }
+    let (f, _, p) = aimed(contents)?;
+    says(Edit::FacePoke(f, p))
 }
 
 // b F G
-fn face_bridge(contents: Contents) -> Parsed
+fn face_bridge(contents: Contents) -> Option<Parsed>
     ensures { L.Tells 98 contents result }
 {
-    match exactly(contents, 2) {
-        Exact::Four(f, g, _, _) => says(Edit::FaceBridge(f, g)),
-        Exact::Otherwise => unreadable(),
-    }
+    let [f, g, _, _] = exactly(contents, 2)?;
+    says(Edit::FaceBridge(f, g))
 }
 
 // j a b c d
-fn arc_bridge(contents: Contents) -> Parsed
+fn arc_bridge(contents: Contents) -> Option<Parsed>
     ensures { L.Tells 106 contents result }
 {
-    match exactly(contents, 4) {
-        Exact::Four(a, b, c, d) => says(Edit::ArcBridge(a, b, c, d)),
-        Exact::Otherwise => unreadable(),
-    }
+    let [a, b, c, d] = exactly(contents, 4)?;
+    says(Edit::ArcBridge(a, b, c, d))
 }
 
 // x F dx dy dz
-fn face_extrude(contents: Contents) -> Parsed
+fn face_extrude(contents: Contents) -> Option<Parsed>
     ensures { L.Tells 120 contents result }
 {
-    match aimed(contents) {
-        Aim::To(f, _, p) => says(Edit::FaceExtrude(f, shift(p))),
-        Aim::Aimless => unreadable(),
-    }
+    let (f, _, p) = aimed(contents)?;
+    says(Edit::FaceExtrude(f, shift(p)))
 }
 
 // a s d dx dy dz
-fn arc_extrude(contents: Contents) -> Parsed
+fn arc_extrude(contents: Contents) -> Option<Parsed>
     ensures { L.Tells 97 contents result }
 {
-    match aimed(contents) {
-        Aim::To(s, d, p) => says(Edit::ArcExtrude(s, d, shift(p))),
-        Aim::Aimless => unreadable(),
-    }
+    let (s, d, p) = aimed(contents)?;
+    says(Edit::ArcExtrude(s, d, shift(p)))
 }
 
 // ---- the line
 
 // By its letter.
-fn by_letter(contents: Contents) -> Parsed
+fn by_letter(contents: Contents) -> Option<Parsed>
     ensures { L.Tells contents.letter contents result }
 {
     let letter = contents.letter;
@@ -241,17 +194,17 @@ fn by_letter(contents: Contents) -> Parsed
         b'j' => arc_bridge(contents),
         b'x' => face_extrude(contents),
         b'a' => arc_extrude(contents),
-        _ => unreadable(),
+        _ => None,
     }
 }
 
-// What a line says. A line of more than 512 bytes, and one whose first field is not one letter, can't be read.
-pub fn read_line(text: &[u8]) -> Parsed
+// What a line says, or none. A line of more than 512 bytes, and one whose first field is not one letter, can't be read.
+pub fn read_line(text: &[u8]) -> Option<Parsed>
     ensures value { result ≡ L.parsed_of (S.line_in text.now) }
-    ensures few { result.count ≤ 254 }
+    ensures few { IfSome result (λ r. r.count ≤ 254) }
 {
     if text.len() > LINE {
-        return unreadable();
+        return None;
     }
-    by_letter(contents_of(text))
+    by_letter(contents_of(text)?)
 }

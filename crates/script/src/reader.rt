@@ -1,13 +1,16 @@
-// The line reader: a line and the place reached in it. Every kind of line is read with its three functions: the letter, then the
-// numbers, then the point. Each takes the reader apart and leaves the work to a function of fields.rt; what is read tells the place
-// of the next field, to which the reader moves on (contents_of in lines.rt, on the way of every line).
+// The line reader: a line and the place reached in it. What is read is the field at that place, and the reader moves on behind it; a
+// place past the line's end means that no field is left. Every kind of line is read with three of its functions: the letter, then the
+// numbers, then the point.
 // It carries document 01's "Its line reader holds the line and the place reached in it".
 
-ghost use Rattle.std.specs.Prelude.{◌≡◌, ◌≤◌, length};
-ghost use Rattle.rules.specs.Script.{point_in};
-ghost use Rattle.script.specs.Fields.{letter_at, numbers_at, spot_of, fields_from};
+ghost use Rattle.std.specs.Prelude.{◌≡◌, ◌==◌, ◌≤◌, MatchOption, length, take};
+ghost use Rattle.std.specs.List.{position};
+ghost use Rattle.rules.specs.Script.{numbers_in, point_in};
+ghost use Rattle.script.specs.Fields.{field_at, fields_from, next_place, place_after};
+ghost use Rattle.script.specs.Fields.{letter_at, number_at, coordinate_at, spot_of, numbers_of, Stays, NoField};
 
-use crate::{Letter, Numbers, Spot, fields};
+use crate::{KEYS, Numbers, fields};
+use rules::Position;
 
 #[derive(Clone, Copy)]
 pub struct Line<'a> {
@@ -15,24 +18,85 @@ pub struct Line<'a> {
     pub at: usize,
 }
 
-// The letter that the field at the place reached is.
-pub fn read_letter<'a>(line: Line<'a>) -> Letter
-    ensures { result ≡ letter_at line.entry.text.now line.entry.at }
+// Where the first space stands.
+fn first_space(text: &[u8]) -> Option<usize>
+    ensures { result ≡ position (λ b. b == 32) text.now }
 {
-    fields::letter_at(line.text, line.at)
+    text.iter().position(|b| *b == b' ')
 }
 
-// The numbers from the place reached on, at most so many.
-pub fn read_numbers<'a>(line: Line<'a>, most: usize) -> Numbers
-    requires { length line.text.now ≤ 512 }
-    ensures { result ≡ numbers_at line.entry.text.now line.entry.at most }
-{
-    fields::numbers_at(line.text, line.at, most)
-}
+impl<'a> Line<'a> {
+    // The field at the place reached.
+    fn field(&mut self) -> Option<&'a [u8]>
+        ensures same { Stays self.old self.new }
+        ensures place { self.new.at ≡ next_place self.old.text.now self.old.at }
+        ensures value { MatchOption result (NoField self.old.text.now self.old.at)
+            (λ f. (self.old.at ≤ length self.old.text.now) × (f.now ≡ field_at self.old.text.now self.old.at)) }
+    {
+        if self.at > self.text.len() {
+            return None;
+        }
+        let rest = &self.text[self.at..];
+        let length = first_space(rest).unwrap_or(rest.len());
+        self.at += length + 1;
+        Some(&rest[..length])
+    }
 
-// The point from the place reached to the line's end.
-pub fn read_spot<'a>(line: Line<'a>) -> Spot
-    ensures { result ≡ spot_of (point_in (fields_from line.entry.text.now line.entry.at)) }
-{
-    fields::spot_at(line.text, line.at)
+    // The letter that it is.
+    pub fn letter(&mut self) -> Option<u8>
+        ensures same { Stays self.old self.new }
+        ensures place { self.new.at ≡ next_place self.old.text.now self.old.at }
+        ensures value { result ≡ letter_at self.old.text.now self.old.at }
+    {
+        fields::letter(self.field()?)
+    }
+
+    // The number in it.
+    pub fn number(&mut self) -> Option<u32>
+        ensures same { Stays self.old self.new }
+        ensures place { self.new.at ≡ next_place self.old.text.now self.old.at }
+        ensures value { result ≡ number_at self.old.text.now self.old.at }
+    {
+        fields::number(self.field()?)
+    }
+
+    // The coordinate in it.
+    pub fn coordinate(&mut self) -> Option<f64>
+        ensures same { Stays self.old self.new }
+        ensures place { self.new.at ≡ next_place self.old.text.now self.old.at }
+        ensures value { result ≡ coordinate_at self.old.text.now self.old.at }
+    {
+        fields::coordinate(self.field()?)
+    }
+
+    // Numbers, at most so many. Where a field is none, none are read, and the place stays.
+    pub fn numbers(&mut self, most: usize) -> Option<Numbers>
+        requires { length self.old.text.now ≤ 512 }
+        ensures same { Stays self.old self.new }
+        ensures place { MatchOption result (self.new.at ≡ self.old.at) (λ _. self.new.at ≡ place_after most self.old.text.now self.old.at) }
+        ensures value { result ≡ numbers_of (numbers_in (take most (fields_from self.old.text.now self.old.at))) }
+    {
+        let mut values = [0u32; KEYS];
+        let mut count: usize = 0;
+        let mut ahead = *self;
+        while count < most && ahead.at <= ahead.text.len() {
+            values[count] = ahead.number()?;
+            count += 1;
+        }
+        *self = ahead;
+        Some(Numbers { values, count })
+    }
+
+    // Three coordinates, and nothing after them.
+    pub fn spot(mut self) -> Option<Position>
+        ensures { result ≡ spot_of (point_in (fields_from self.entry.text.now self.entry.at)) }
+    {
+        let x = self.coordinate()?;
+        let y = self.coordinate()?;
+        let z = self.coordinate()?;
+        if self.at <= self.text.len() {
+            return None;
+        }
+        Some(Position { x, y, z })
+    }
 }

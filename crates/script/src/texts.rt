@@ -4,10 +4,11 @@
 
 ghost use Rattle.std.specs.Prelude.{◌≡◌, [], ◌∷◌, ◌+◌, ◌≤◌, ◌<◌, length};
 ghost use Rattle.rules.specs.Script.{decimal, spaced};
+ghost use Rattle.rules.specs.Lent.{answered};
 ghost use Rattle.script.specs.Texts as T;
 
 use crate::Words;
-use rules::{Answer, Edit};
+use rules::{Edit, Refusal, Told};
 
 // ---- bytes and numbers
 
@@ -57,16 +58,16 @@ pub fn put_spaced(out: &mut [u8], at: usize, n: u32) -> usize
 // ---- what is told of an answer
 
 // All of it.
-fn words_of(a: Answer) -> Words
-    ensures { result ≡ T.words_of a }
+fn words_of(answer: Result<Told, Refusal>) -> Words
+    ensures { result ≡ T.words_of (answered answer) }
 {
-    match a {
-        Answer::Key(k) => Words::One(k),
-        Answer::Arc(s, d) => Words::Two(s, d),
-        Answer::Mark(m) => Words::One(m),
-        Answer::Arity(n) => Words::One(n),
-        Answer::Done => Words::Bare,
-        Answer::Refused(r) => Words::No(tables::answers::number_of(r)),
+    match answer {
+        Ok(Told::Key(k)) => Words::One(k),
+        Ok(Told::Arc(s, d)) => Words::Two(s, d),
+        Ok(Told::Mark(m)) => Words::One(m),
+        Ok(Told::Arity(n)) => Words::One(n),
+        Ok(Told::Done) => Words::Bare,
+        Err(r) => Words::No(tables::answers::number_of(r)),
     }
 }
 
@@ -100,10 +101,10 @@ fn shows_keys(e: Edit) -> bool
 }
 
 // What is shown after an edit.
-fn shown_words(e: Edit, a: Answer) -> Words
-    ensures { result ≡ T.shown_words e a }
+fn shown_words(e: Edit, answer: Result<Told, Refusal>) -> Words
+    ensures { result ≡ T.shown_words e (answered answer) }
 {
-    let all = words_of(a);
+    let all = words_of(answer);
     if shows_keys(e) {
         return all;
     }
@@ -137,12 +138,12 @@ fn put_words(out: &mut [u8], at: usize, w: Words) -> usize
 }
 
 // The line that answers an edit.
-pub fn put_answer(out: &mut [u8], at: usize, e: Edit, a: Answer) -> usize
+pub fn put_answer(out: &mut [u8], at: usize, e: Edit, answer: Result<Told, Refusal>) -> usize
     requires { at + 64 ≤ length out.old }
-    ensures result_after { T.written out.new result ≡ T.wrote out.old at (T.answer_line e a) }
+    ensures result_after { T.written out.new result ≡ T.wrote out.old at (T.answer_line e (answered answer)) }
     ensures short { result ≤ at + 64 }
 {
-    let next = put_words(out, at, shown_words(e, a));
+    let next = put_words(out, at, shown_words(e, answer));
     put_byte(out, next, b'\n')
 }
 

@@ -1,23 +1,22 @@
 -- The clauses of Sound by the tables that they go over, and the whole of Sound.
-use Prim.Native.Nat.{ℕ, ◌-◌, ◌*◌, ◌≤◌}
+use Prim.Native.Nat.{ℕ, ◌*◌, ◌≤◌}
 use native.Mathlib.Omega.{arith}
-use mathlib.Core.Path.{◌≡◌, refl, subst, ◌∙◌}
+use mathlib.Core.Path.{◌≡◌, subst, ◌∙◌}
 use mathlib.Core.List.{List, map}
 use lib.ListN.{length, take}
 use mathlib.Core.Bool.{Bool, true, false, ◌&&◌}
 use lib.Dec.{T, eqb, eqb→eq}
 use lib.Ieee.Fits.{and_l, and_r, and_i}
-use Rattle.rules.specs.Table.{Table, count, used}
+use Rattle.rules.specs.Table.{count, used}
 use Rattle.rules.specs.Mesh.{Mesh, source, dest, next_key, vertex_kind, edge_kind, face_kind}
 use Rattle.rules.specs.Sound.{Sound, sound, within_limits, keys_differ, keys_below, both_arcs, ends_differ, ends_exist, pairs_differ, edge_joins, leads_out, unused_zero, positions_zero, rest_zero, all_finite}
 use Rattle.rules.proofs.Sums.{same_test}
 use Rattle.proved.proofs.Rows.{T_true, true-T, same-T}
 use Rattle.proved.proofs.SoundParts.{parts, whole, sizes}
-use Rattle.proved.specs.Demand.{holds_some}
 use Rattle.proved.specs.Facts.{IsArc, IsVertex}
 use Rattle.proved.proofs.Clauses as facts
 use Rattle.proved.proofs.Edges.{Edges}
-use Rattle.sound.specs.Parts.{below, vertices_sound, positions_sound, edge_ends, loose_links, arcs_sound, edges_sound, faces_sound, rows_sound, held_if, used_if}
+use Rattle.sound.specs.Parts.{below, vertices_sound, positions_sound, edge_ends, loose_links, arcs_sound, edges_sound, faces_sound, rows_sound}
 use Rattle.names.specs.Names as names
 use Rattle.sound.specs.Names.{edge_name}
 use Rattle.sound.specs.Rings.{rings_full}
@@ -27,38 +26,6 @@ use Rattle.sound.proofs.RingTell.{full-faces, full-rings, full-next, full-previo
 -- what a sound mesh has, and this one has not
 pub lacks : (m : Mesh) (b : Bool) → (T (sound m) → T b) → b ≡ false → false ≡ sound m
 lacks m b f e = same_test false (sound m) (λ z. absurd z) (λ t. subst T e (f t))
-
--- a count that stands for a test: 0 where it fails, one more where it passes
-module _ (b : Bool) (arcs : Table) (held : ℕ) (e : held ≡ held_if b arcs) where
-  pub held_none : held ≡ 0 → b ≡ false
-  held_none z = go b e
-    where
-      go : (c : Bool) → held ≡ held_if c arcs → c ≡ false
-      go true q = let y : ⊥ = omega arith in absurd y
-      go false q = refl
-
-  pub held-some : (held ≡ 0 → ⊥) → (b ≡ true) × (held - 1 ≡ count holds_some arcs)
-  held-some nz = go b e
-    where
-      go : (c : Bool) → held ≡ held_if c arcs → (c ≡ true) × (held - 1 ≡ count holds_some arcs)
-      go true q = (refl, omega arith)
-      go false q = absurd (nz q)
-
--- and so for the edges
-module _ (b : Bool) (edges : Table) (there : ℕ) (e : there ≡ used_if b edges) where
-  pub used-none : there ≡ 0 → b ≡ false
-  used-none z = go b e
-    where
-      go : (c : Bool) → there ≡ used_if c edges → c ≡ false
-      go true q = let y : ⊥ = omega arith in absurd y
-      go false q = refl
-
-  pub used-some : (there ≡ 0 → ⊥) → (b ≡ true) × (there - 1 ≡ count used edges)
-  used-some nz = go b e
-    where
-      go : (c : Bool) → there ≡ used_if c edges → (c ≡ true) × (there - 1 ≡ count used edges)
-      go true q = (refl, omega arith)
-      go false q = absurd (nz q)
 
 -- all that sizes and rows tell
 pub record RowsTell (m : Mesh) : Type 0 where

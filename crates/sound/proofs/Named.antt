@@ -25,6 +25,7 @@ use Rattle.names.specs.Names.{pair_name}
 use Rattle.names.specs.Rising.{last_before, rises}
 use Rattle.names.proofs.Names.{differ-shows, differ-from, shown, rising-differ, last_more}
 use Rattle.names.proofs.Pairs.{pair-swap, pair_parts, pair-some, pair_ends}
+use Rattle.sound.specs.declared.keys.Rising.{Rising}
 use Rattle.sound.specs.Names.{firsts, keys_rise, edge_name}
 
 -- ---- any names
@@ -143,6 +144,13 @@ module _ (t : Table) where
 
     pub risen-more : (more : Bool) (next : ℕ) → more ≡ (rising && (eqb (get_or (get_or t i []) 0 0) 0 || ltb last (get_or (get_or t i []) 0 0))) → next ≡ or_else (get_or (get_or t i []) 0 0) last → Risen (i + 1) more next
     risen-more more next e q = (e ∙ rising-row, q ∙ last_row)
+
+  -- the code's record of it
+  pub risen-start : (k : Rising) → k ≡ record { so = true; last = 0 } → Risen 0 k.so k.last
+  risen-start k e = rw e risen-none
+
+  pub risen-after : (i : ℕ) → i < length t → (k n : Rising) → Risen i k.so k.last → n ≡ record { so = k.so && (eqb (get_or (get_or t i []) 0 0) 0 || ltb k.last (get_or (get_or t i []) 0 0)); last = or_else (get_or (get_or t i []) 0 0) k.last } → Risen (i + 1) n.so n.last
+  risen-after i l k n h e = rw e (risen-more i l k.so k.last h _ _ refl refl)
 
 -- ---- pairs
 

@@ -14,7 +14,9 @@ use Rattle.rules.specs.Mesh.{Mesh, source, dest, next, previous, face, face_arc}
 use Rattle.rules.specs.Link.{ring}
 use Rattle.rules.proofs.Sums.{all-at}
 use Rattle.proved.proofs.Rows.{T_false, true-T, same-T, differ, differ-T, all_from, cell-none, cell-past, cell_row, link_row, in_table, every-at}
-use Rattle.sound.specs.Rings.{ring_arc, ring_row, apart, ring_whole, ring_linked, ring_length, linked_length}
+use Rattle.std.specs.Prelude.{Option, Some, None}
+use Rattle.std.specs.Option.{unwrap_or}
+use Rattle.sound.specs.Rings.{row_of, ring_arc, ring_row, apart, ring_whole, ring_linked, ring_length, linked_length}
 use Rattle.sound.proofs.RingWalk.{on, on_none, on-more, Away, away-none, away-more, Walked, place-on, whole-walked, longer, length-is, every-on, end-fails}
 
 -- ---- a row that the table has, read by the code's index
@@ -23,14 +25,8 @@ module _ (arcs : Table) (x w : ℕ) (e : w ≡ x) (h : (leb 1 x && leb x (length
   low : 1 ≤ x
   low = leb→le 1 x (and_l (leb 1 x) (leb x (length arcs)) (true-T h))
 
-  high : x ≤ length arcs
-  high = leb→le x (length arcs) (and_r (leb 1 x) (leb x (length arcs)) (true-T h))
-
-  pub index-some : 1 ≤ w
+  index-some : 1 ≤ w
   index-some = omega (arith, low)
-
-  pub index_in : w - 1 < length arcs
-  index_in = omega (arith, low, high)
 
   pub row-cell : (c : ℕ) → get_or (get_or arcs (w - 1) []) c 0 ≡ cell arcs x c
   row-cell c = sym (cell_row arcs (w - 1) c) ∙ ap (λ (y : ℕ). cell arcs y c) (link_row w index-some ∙ e)
@@ -244,6 +240,27 @@ module _ (m : Mesh) (f : ℕ) where
     row_within =
         let b = in_table a x (and_l (there a x) (eqb (cell a x 4) f) there-holds) in
         and_i (leb 1 x) (leb x (length a)) (le→leb 1 x b.0) (le→leb x (length a) b.1)
+
+-- ---- a row that is read as an option
+
+module _ (arcs : Table) (x : ℕ) where
+  pub row-none : None ≡ row_of arcs x → (leb 1 x && leb x (length arcs)) ≡ false
+  row-none e = go (leb 1 x && leb x (length arcs)) refl e
+    where
+      go : (b : Bool) → (leb 1 x && leb x (length arcs)) ≡ b → None ≡ cond b (Some (get_or arcs (x - 1) [])) None → (leb 1 x && leb x (length arcs)) ≡ false
+      go true q z = absurd (cc)
+      go false q z = q
+
+  pub row-some : (r : List ℕ) → Some r ≡ row_of arcs x → (c : ℕ) → get_or r c 0 ≡ cell arcs x c
+  row-some r e c = go (leb 1 x && leb x (length arcs)) refl e
+    where
+      go : (b : Bool) → (leb 1 x && leb x (length arcs)) ≡ b → Some r ≡ cond b (Some (get_or arcs (x - 1) [])) None → get_or r c 0 ≡ cell arcs x c
+      go true q z = let same : r ≡ get_or arcs (x - 1) [] = cc in ap (λ (l : List ℕ). get_or l c 0) same ∙ row-cell arcs x x refl q c
+      go false q z = absurd (cc)
+
+  pub row-or_zero : (o : Option (List ℕ)) → o ≡ row_of arcs x → (c : ℕ) → get_or (unwrap_or o (0 ∷ 0 ∷ 0 ∷ 0 ∷ 0 ∷ 0 ∷ [])) c 0 ≡ cell arcs x c
+  row-or_zero None e c = no_row arcs x (row-none e) c
+  row-or_zero (Some r) e c = row-some r e c
 
 -- ---- the ways out, on the table that the code reads
 

@@ -32,3 +32,8 @@ module _ (m : Mesh) (f : ℕ) (arcs : Table) (first : ℕ) (w : Walk) (ea : m.ar
 pub ring-few : (m : Mesh) (f : ℕ) → length (ring m f) ≤ 64
 unfolding ring
 ring-few m f = walk-few (next m) (face_arc m f) 64 (face_arc m f)
+
+-- and so has what the code is given
+pub walk-short : (step : ℕ → ℕ) (first : ℕ) (w : Walk) → w ≡ walk_of step first 64 → w.links.len ≤ 64
+unfolding walk_of links_of
+walk-short step first w e = rw e (walk-few step first 64 first)

@@ -6,15 +6,17 @@ use mathlib.Core.Path.{◌≡◌, refl, ap, sym, subst, ◌∙◌}
 use mathlib.Core.Bool.{Bool, true, false, not, cond, ◌&&◌, ◌||◌}
 use mathlib.Core.List.{List, [], ◌∷◌}
 use lib.ListN.{length, get_or}
-use lib.Dec.{eqb, ltb}
+use lib.Dec.{eqb, ltb, eqb→eq}
 use lib.Ieee.Fits.{and_l, and_r}
 use borrow.Author.Tests.{eq-eqb, ne_eqb}
 use Rattle.rules.specs.Table.{Table, all_below, every, count, there, used, unused}
 use Rattle.rules.specs.Mesh.{Mesh, key_of, next_key, vertex_kind, edge_kind, face_kind}
 use Rattle.rules.specs.Point.{zero_position_row, finite_row}
 use Rattle.rules.specs.Sound.{keys_of, has_both_arcs, both_arcs, leads_out, next_leaves, previous_arrives, zero_row, unused_zero, positions_zero, all_finite}
+use Rattle.std.specs.List.{list_all}
+use Rattle.rules.proofs.Sums.{same_test}
 use Rattle.proved.specs.Demand.{holds_some}
-use Rattle.proved.proofs.Rows.{T_true, true-T, row-link, cell_row}
+use Rattle.proved.proofs.Rows.{T_true, true-T, same-T, row-link, cell_row}
 use Rattle.names.proofs.Loops.{every-all, Passed, one-failed, all-passed}
 use Rattle.tables.proofs.Scans.{Counted, counted-one, counted_none}
 use Rattle.sound.specs.Tests.{blank_row, key_test, both_row, ends_row, leads_row, next_row, previous_row, loose_row, vertex_test, position_test, arc_test, edge_test, face_test}
@@ -98,7 +100,37 @@ keys_below_lem t counter = rows-keys (λ k. ltb k counter) t ∙ every-all (λ r
 pub zero_row_lem : (r : List ℕ) → zero_row r ≡ all_below (λ i. eqb 0 (get_or r i 0)) (length r)
 zero_row_lem r = every-all (eqb 0) r 0
 
+zero-either : (x : ℕ) → eqb x 0 ≡ eqb 0 x
+zero-either x = same_test (eqb x 0) (eqb 0 x) (λ t. same-T 0 x (sym (eqb→eq x 0 t))) (λ t. same-T x 0 (sym (eqb→eq 0 x t)))
+
+-- as the library goes over the cells
+pub zero-cells : (r : List ℕ) → list_all (λ y. eqb y 0) r ≡ zero_row r
+unfolding every
+zero-cells [] = refl
+zero-cells (x ∷ xs) = rw (zero-either x, zero-cells xs)
+
 -- ---- each table
+
+-- clauses that are a test of each row: a row fails, or all rows were gone through
+module _ (q : ℕ → Bool) (b : Bool) (n : ℕ) (told : b ≡ all_below q n) (i : ℕ) where
+  pub table-fails : i < n → q i ≡ false → b ≡ false
+  table-fails l e = told ∙ sym (one-failed q n i l e)
+
+  pub table-passes : n ≤ i → i ≤ n → Passed q i → b ≡ true
+  table-passes a c h = told ∙ sym (all-passed q n i a c h)
+
+module _ (m : Mesh) where
+  abbrev pub vertex_passes : ℕ → Bool
+  vertex_passes i = vertex_test m.arcs (next_key m vertex_kind) (get_or m.vertices i []) (i + 1)
+
+  abbrev pub position_passes : ℕ → Bool
+  position_passes i = position_test m.vertices (get_or m.positions i []) (i + 1)
+
+  abbrev pub edge_passes : ℕ → Bool
+  edge_passes i = edge_test m.vertices m.arcs (next_key m edge_kind) (get_or m.edges i []) (i + 1)
+
+  abbrev pub face_passes : ℕ → Bool
+  face_passes i = face_test (next_key m face_kind) (get_or m.faces i [])
 
 module _ (m : Mesh) where
   pub vertices-rows : vertices_sound m ≡ all_below (λ i. vertex_test m.arcs (next_key m vertex_kind) (get_or m.vertices i []) (i + 1)) (length m.vertices)

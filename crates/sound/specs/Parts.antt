@@ -1,8 +1,11 @@
 -- The clauses of Sound by the table that they go over, as the code tests them: what one pass over each table tells.
-use Rattle.std.specs.Prelude.{◌≡◌, Bool, true, not, cond, ◌&&◌, List, [], length, get_or, eqb, ltb, Float, ℕ, ◌+◌, ◌*◌, ◌≤◌, ◌<◌}
+use Rattle.std.specs.Prelude.{◌≡◌, Bool, true, false, not, ◌&&◌, List, [], map, take, length, get_or, eqb, ltb, Float, ℕ, ◌+◌, ◌*◌, ◌≤◌, ◌<◌, Option, Some, None}
 use Rattle.rules.specs.Table.{Table, every, count, each_used, all_below, there, used}
 use Rattle.rules.specs.Mesh.{Mesh, source, dest, edge_arc, next_key, vertex_kind, edge_kind, face_kind}
 use Rattle.proved.specs.Demand.{holds_some}
+use Rattle.sound.specs.declared.keys.Rising.{Rising}
+use Rattle.sound.specs.declared.passes.Named.{Named}
+use Rattle.sound.specs.Names.{edge_name, keys_rise}
 use Rattle.sound.specs.Tests.{loose_row, position_test}
 use Rattle.rules.specs.Sound.{within_limits, keys_of, both_arcs, leads_out, unused_zero, positions_zero, all_finite}
 
@@ -44,12 +47,23 @@ unfoldable pub rows_sound : Mesh → Bool
 rows_sound m =
     within_limits m && (vertices_sound m && (positions_sound m && (faces_sound m && (edges_sound m && arcs_sound m))))
 
--- how many arcs hold a face, how many edges there are, plus one, if so; else 0
-abbrev pub held_if : Bool → Table → ℕ
-held_if b arcs = cond b (count holds_some arcs + 1) 0
+-- what a pass over a table tells: its clauses hold and, where so is told, its keys rise; or they do not hold
+abbrev pub PassOf : Bool → Table → Option Rising → Type 0
+PassOf b t None = b ≡ false
+PassOf b t (Some r) = (b ≡ true) × (r.so ≡ true → keys_rise t ≡ true)
 
-abbrev pub used_if : Bool → Table → ℕ
-used_if b edges = cond b (count used edges + 1) 0
+-- the clauses hold, and there are so many
+abbrev pub CountOf : Bool → ℕ → Option ℕ → Type 0
+CountOf b n None = b ≡ false
+CountOf b n (Some r) = (b ≡ true) × (r ≡ n)
+
+-- the pass over the edges: how many there are, and a list that begins with their names
+abbrev pub EdgesPass : Mesh → List ℕ → Option Named → Type 0
+EdgesPass m list None = edges_sound m ≡ false
+EdgesPass m list (Some n) =
+    (edges_sound m ≡ true)
+    × ((n.there ≡ count used m.edges)
+    × ((take (length m.edges) list ≡ map (edge_name m.arcs) m.edges) × (n.keys.so ≡ true → keys_rise m.edges ≡ true)))
 
 -- the rows from i up to r all hold a face
 abbrev pub AllHold : Table → ℕ → ℕ → Type 0

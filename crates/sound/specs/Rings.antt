@@ -1,10 +1,14 @@
 -- A ring as the code tests it: all that is asked of one ring but that no arc off it holds the face, which is counted over all rings.
-use Rattle.std.specs.Prelude.{ℕ, Bool, not, ◌&&◌, cond, List, length, get_or, eqb}
+use Rattle.std.specs.Prelude.{◌≡◌, ℕ, ◌-◌, ◌≤◌, Bool, not, ◌&&◌, cond, List, [], length, get_or, eqb, leb, Option, Some, None}
 use Rattle.rules.specs.Table.{Table, cell, there, used, every, each_used, all_below}
 use Rattle.rules.specs.Mesh.{Mesh, source, dest, next}
 use Rattle.rules.specs.Link.{ring}
 use Rattle.proved.specs.Demand.{over_faces, all_holders}
 use Rattle.rules.specs.Sound.{names_holder, comes_back, three_to_limit, sources_differ, ring_holds, runs_back}
+
+-- the row that a link names, if the table has it
+abbrev pub row_of : Table → ℕ → Option (List ℕ)
+row_of t x = cond (leb 1 x && leb x (length t)) (Some (get_or t (x - 1) [])) None
 
 -- an arc on it holds the face, and previous of next is the arc itself
 unfoldable pub ring_arc : Table → ℕ → ℕ → Bool
@@ -54,6 +58,16 @@ apart l n = all_below (λ i. all_below (λ j. not (eqb (get_or l j 0) (get_or l 
 
 unfoldable pub linked_length : Mesh → ℕ → ℕ
 linked_length m f = cond (ring_whole m f && ring_linked m f) (length (ring m f)) 0
+
+-- a length that is given, or none for 0
+abbrev pub LengthIs : ℕ → Option ℕ → Type 0
+LengthIs n None = 0 ≡ n
+LengthIs n (Some r) = (1 ≤ r) × (r ≡ n)
+
+-- the same where one is given, and nothing else
+abbrev pub IfTold : ℕ → Option ℕ → Type 0
+IfTold n None = Unit {0}
+IfTold n (Some r) = (1 ≤ r) × (r ≡ n)
 
 -- all rings are so, and together have as many arcs as hold a face
 unfoldable pub rings_full : Mesh → Bool

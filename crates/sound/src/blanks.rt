@@ -1,64 +1,26 @@
 // Rows that are not in use, and coordinates. It carries document 01's "unused rows are zero" and "every coordinate is finite".
 
-ghost use Rattle.std.specs.Prelude.{◌≡◌, ◌&&◌, ◌||◌, ◌+◌};
+ghost use Rattle.std.specs.Prelude.{◌≡◌, ◌&&◌, ◌||◌, ◌+◌, ◌≤◌};
 ghost use Rattle.rules.specs.Table.{there};
 ghost use Rattle.rules.specs.Point.{zero_position_row, finite_row};
-ghost use Rattle.rules.specs.Sound.{zero_row};
 ghost use Rattle.sound.specs.Tests.{blank_row, position_test};
 
-use rules::{ArcRow, EdgeRow, PositionRow, VertexRow};
+use rules::{PositionRow, VertexRow};
 use tables::points;
 
-// Whether all cells of a row are zero.
-fn zero_cells(row: &[u32]) -> bool
-    ensures { result ≡ zero_row row.now }
+// Unused rows are zero, in a table of any width.
+pub fn blank<const N: usize>(row: &[u32; N]) -> bool
+    requires { 1 ≤ N }
+    ensures { result ≡ blank_row row.now }
 {
-    let mut i = 0;
-    while i < row.len() {
-        if row[i] != 0 {
-            return false;
-        }
-        i += 1;
-    }
-    true
-}
-
-// Unused rows are zero, in a table of each width.
-pub fn blank2(row: VertexRow) -> bool
-    ensures { result ≡ blank_row row }
-{
-    if row[0] != 0 {
-        return true;
-    }
-    zero_cells(&row)
-}
-
-pub fn blank3(row: EdgeRow) -> bool
-    ensures { result ≡ blank_row row }
-{
-    if row[0] != 0 {
-        return true;
-    }
-    zero_cells(&row)
-}
-
-pub fn blank6(row: ArcRow) -> bool
-    ensures { result ≡ blank_row row }
-{
-    if row[0] != 0 {
-        return true;
-    }
-    zero_cells(&row)
+    row[0] != 0 || row.iter().all(|&cell| cell == 0)
 }
 
 // Whether the vertex row i is in use: past the table none is.
 fn used_row(vertices: &[VertexRow], i: usize) -> bool
     ensures { result ≡ there vertices.now (i + 1) }
 {
-    if i >= vertices.len() {
-        return false;
-    }
-    vertices[i][0] != 0
+    i < vertices.len() && vertices[i][0] != 0
 }
 
 // Whether a position is zero by its bits, so not -0.

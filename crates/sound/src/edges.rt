@@ -15,51 +15,32 @@ use tables::rows;
 fn opposites(p: ArcRow, q: ArcRow, e: usize) -> bool
     ensures { result ≡ opposite_rows p q e }
 {
-    if rows::wide(p[5]) != e {
-        return false;
-    }
-    if rows::wide(q[5]) != e {
-        return false;
-    }
-    if p[0] != q[1] {
-        return false;
-    }
-    p[1] == q[0]
+    rows::wide(p[5]) == e && (rows::wide(q[5]) == e && (p[0] == q[1] && p[1] == q[0]))
 }
 
 // Whether two vertices differ and exist.
 fn two_vertices(vertices: &[VertexRow], a: u32, b: u32) -> bool
     ensures { result ≡ two_vertices vertices.now a b }
 {
-    if a == b {
-        return false;
-    }
-    if rows::cell2(vertices, a, 0) == 0 {
-        return false;
-    }
-    rows::cell2(vertices, b, 0) != 0
+    a != b && (rows::cell(vertices, a, 0) != 0 && rows::cell(vertices, b, 0) != 0)
 }
 
 // An edge has both arcs: the two that it names are there, hold it, and have each other's ends swapped. Its ends differ, and exist: those of
 // the arc that it names, and so those of its other arc. An arc whose ends exist is there.
+// Kept: the two rows are read before they are compared, and `let .. else` leaves where one is missing.
 pub fn edge_arcs(vertices: &[VertexRow], arcs: &[ArcRow], row: EdgeRow, e: usize) -> bool
     ensures { result ≡ (both_row arcs.now row e && ends_row vertices.now arcs.now row) }
 {
     if row[0] == 0 {
         return true;
     }
-    if !faces::has_row(arcs, row[1]) {
+    let Some(p) = faces::row_of(arcs, row[1]) else {
         return false;
-    }
-    if !faces::has_row(arcs, row[2]) {
+    };
+    let Some(q) = faces::row_of(arcs, row[2]) else {
         return false;
-    }
-    let p = arcs[rows::wide(row[1]) - 1];
-    let q = arcs[rows::wide(row[2]) - 1];
-    if !opposites(p, q, e) {
-        return false;
-    }
-    two_vertices(vertices, p[0], p[1])
+    };
+    opposites(p, q, e) && two_vertices(vertices, p[0], p[1])
 }
 
 // ---- no two edges join the same pair: no two have one name
@@ -71,5 +52,5 @@ pub fn edge_name(arcs: &[ArcRow], row: EdgeRow) -> u32
     if row[0] == 0 {
         return 0;
     }
-    names::pair_name(rows::cell6(arcs, row[1], 0), rows::cell6(arcs, row[1], 1))
+    names::pair_name(rows::cell(arcs, row[1], 0), rows::cell(arcs, row[1], 1))
 }

@@ -19,10 +19,8 @@ fn block_holds(arcs: &[ArcRow], i: usize) -> bool
     ensures { result ≡ true → AllHold arcs.now i (i + 8) }
 {
     let mut all = true;
-    let mut k: usize = 0;
-    while k < 8 {
+    for k in 0..8 {
         all = all & holds_some(arcs[i + k]);
-        k += 1;
     }
     all
 }
@@ -33,6 +31,7 @@ fn skip_blocks(arcs: &[ArcRow], from: usize) -> usize
     ensures { HeldTo arcs.now from result }
 {
     let mut i = from;
+    // Kept: a `for` over the number of the block is no plainer: the row has to be worked out from it, in the loop and after it.
     while arcs.len() - i >= 8 {
         if !block_holds(arcs, i) {
             return i;
@@ -47,14 +46,12 @@ fn skip_rows(arcs: &[ArcRow], from: usize) -> usize
     requires { from ≤ length arcs.now }
     ensures { HeldTo arcs.now from result }
 {
-    let mut i = from;
-    while i < arcs.len() {
+    for i in from..arcs.len() {
         if !holds_some(arcs[i]) {
             return i;
         }
-        i += 1;
     }
-    i
+    arcs.len()
 }
 
 // The first row from here on that holds no face, by blocks as far as they hold faces.

@@ -12,22 +12,17 @@ use tables::rows;
 pub fn arc_has(arcs: &[ArcRow], x: u32, c: usize, value: usize) -> bool
     ensures { result ≡ (there arcs.now x && eqb (cell arcs.now x c) value) }
 {
-    if rows::cell6(arcs, x, 0) == 0 {
-        return false;
-    }
-    rows::wide(rows::cell6(arcs, x, c)) == value
+    rows::cell(arcs, x, 0) != 0 && rows::wide(rows::cell(arcs, x, c)) == value
 }
 
 // ---- one row: an unused row passes
 
 // A leading arc, unless none, exists and leaves its vertex.
+// Kept: one phrase of document 01 each, and a definition each (specs): they differ in which cell names the arc, which of its ends is asked and whose.
 pub fn leads_row(arcs: &[ArcRow], row: VertexRow, v: usize) -> bool
     ensures { result ≡ leads_row arcs.now row v }
 {
-    if row[0] == 0 {
-        return true;
-    }
-    if row[1] == 0 {
+    if row[0] == 0 || row[1] == 0 {
         return true;
     }
     arc_has(arcs, row[1], 0, v)
@@ -37,10 +32,7 @@ pub fn leads_row(arcs: &[ArcRow], row: VertexRow, v: usize) -> bool
 pub fn next_row(arcs: &[ArcRow], row: ArcRow) -> bool
     ensures { result ≡ next_row arcs.now row }
 {
-    if row[0] == 0 {
-        return true;
-    }
-    if row[2] == 0 {
+    if row[0] == 0 || row[2] == 0 {
         return true;
     }
     arc_has(arcs, row[2], 0, rows::wide(row[1]))
@@ -50,10 +42,7 @@ pub fn next_row(arcs: &[ArcRow], row: ArcRow) -> bool
 pub fn previous_row(arcs: &[ArcRow], row: ArcRow) -> bool
     ensures { result ≡ previous_row arcs.now row }
 {
-    if row[0] == 0 {
-        return true;
-    }
-    if row[3] == 0 {
+    if row[0] == 0 || row[3] == 0 {
         return true;
     }
     arc_has(arcs, row[3], 1, rows::wide(row[0]))
@@ -63,11 +52,5 @@ pub fn previous_row(arcs: &[ArcRow], row: ArcRow) -> bool
 pub fn loose_row(arcs: &[ArcRow], row: ArcRow) -> bool
     ensures { result ≡ loose_row arcs.now row }
 {
-    if row[4] != 0 {
-        return true;
-    }
-    if !next_row(arcs, row) {
-        return false;
-    }
-    previous_row(arcs, row)
+    row[4] != 0 || (next_row(arcs, row) && previous_row(arcs, row))
 }

@@ -13,24 +13,21 @@ fn block_used(vertices: &[VertexRow], positions: &[PositionRow], i: usize) -> bo
     ensures { result ≡ true → Placed vertices.now positions.now i → Placed vertices.now positions.now (i + 8) }
 {
     let mut all = true;
-    let mut k: usize = 0;
-    while k < 8 {
+    for k in 0..8 {
         all = all & ((vertices[i + k][0] != 0) & blanks::finite_row(positions[i + k]));
-        k += 1;
     }
     all
 }
 
 // Whether the eight rows from i on pass, vertices or not.
+// Kept: one function over the test of a row was tried, and is no plainer: it asks three things of the test, more than the two loops say.
 fn block_passes(vertices: &[VertexRow], positions: &[PositionRow], i: usize) -> bool
     requires { (i + 8 ≤ length vertices.now) × (i + 8 ≤ length positions.now) }
     ensures { result ≡ true → Placed vertices.now positions.now i → Placed vertices.now positions.now (i + 8) }
 {
     let mut all = true;
-    let mut k: usize = 0;
-    while k < 8 {
+    for k in 0..8 {
         all = all & blanks::place_row(vertices[i + k][0] != 0, positions[i + k]);
-        k += 1;
     }
     all
 }
@@ -41,6 +38,7 @@ fn skip_used(vertices: &[VertexRow], positions: &[PositionRow], n: usize) -> usi
     ensures { PlacedTo vertices.now positions.now n result }
 {
     let mut i = 0;
+    // Kept: a `for` over the number of the block is no plainer: the row has to be worked out from it, in the loop and after it.
     while n - i >= 8 {
         if !block_used(vertices, positions, i) {
             return i;
@@ -56,6 +54,7 @@ fn skip_passed(vertices: &[VertexRow], positions: &[PositionRow], n: usize, from
     ensures { PlacedTo vertices.now positions.now n result }
 {
     let mut i = from;
+    // Kept: a `for` over the number of the block is no plainer, as in skip_used.
     while n - i >= 8 {
         if !block_passes(vertices, positions, i) {
             return i;
@@ -69,6 +68,6 @@ fn skip_passed(vertices: &[VertexRow], positions: &[PositionRow], n: usize, from
 pub fn skip_placed(vertices: &[VertexRow], positions: &[PositionRow]) -> usize
     ensures { PlacedTo vertices.now positions.now (length positions.now) result }
 {
-    let n = names::lesser(vertices.len(), positions.len());
+    let n = vertices.len().min(positions.len());
     skip_passed(vertices, positions, n, skip_used(vertices, positions, n))
 }

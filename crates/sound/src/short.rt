@@ -5,20 +5,16 @@
 ghost use Rattle.std.specs.Prelude.{◌≡◌, ℕ, get_or};
 ghost use Rattle.rules.specs.Table.{cell};
 ghost use Rattle.rules.specs.Mesh.{Mesh, face_arc};
-ghost use Rattle.sound.specs.Rings.{linked_length, three_apart, three_rows, four_rows};
+ghost use Rattle.sound.specs.Rings.{linked_length, IfTold, three_apart, three_rows, four_rows};
 
 use crate::faces;
 use rules::ArcRow;
-use tables::rows;
 
 // The row of an arc, by its link. Through none, or past the table, it is zero.
 fn row_at(arcs: &[ArcRow], x: u32) -> ArcRow
     ensures { (c : ℕ) → get_or result c 0 ≡ cell arcs.now x c }
 {
-    if !faces::has_row(arcs, x) {
-        return [0; 6];
-    }
-    arcs[rows::wide(x) - 1]
+    faces::row_of(arcs, x).unwrap_or([0; 6])
 }
 
 // Whether three numbers differ.
@@ -50,29 +46,26 @@ fn four_rows(p: ArcRow, q: ArcRow, r: ArcRow, z: ArcRow, f: usize, first: u32) -
                         & ((p[0] != r[0]) & ((q[0] != r[0]) & (r[0] != z[0])))))))
 }
 
-// How many arcs the ring of a face has, where it has three or four, and all that is asked of one ring holds and its arcs are linked; else 0.
-// The last arc is the one before the first.
-pub fn short_length(arcs: &[ArcRow], first: u32, f: usize) -> usize
-    ensures { (m : Mesh) → m.arcs ≡ arcs.now → face_arc m f ≡ first → (result ≡ 0 → ⊥) → result ≡ linked_length m f }
+// How many arcs the ring of a face has, where it has three or four, and all that is asked of one ring holds and its arcs are linked; none
+// tells nothing. The last arc is the one before the first.
+pub fn short_length(arcs: &[ArcRow], first: u32, f: usize) -> Option<usize>
+    ensures { (m : Mesh) → m.arcs ≡ arcs.now → face_arc m f ≡ first → IfTold (linked_length m f) result }
 {
     let p = row_at(arcs, first);
     let q = row_at(arcs, p[2]);
     let z = row_at(arcs, p[3]);
     if z[2] != first {
-        return 0;
+        return None;
     }
     if q[2] == p[3] {
         if !three_rows(p, q, z, f, first) {
-            return 0;
+            return None;
         }
-        return 3;
+        return Some(3);
     }
     let r = row_at(arcs, q[2]);
-    if r[2] != p[3] {
-        return 0;
+    if r[2] != p[3] || !four_rows(p, q, r, z, f, first) {
+        return None;
     }
-    if !four_rows(p, q, r, z, f, first) {
-        return 0;
-    }
-    4
+    Some(4)
 }

@@ -9,7 +9,7 @@ mod mesh; // mesh.rt: the tables that a line stores into
 
 ghost use Rattle.std.specs.Prelude.{◌≤◌, IfOk, length};
 
-use rules::{ArcRow, EdgeRow, FaceRow, PositionRow, VertexRow};
+use rules::MeshMut;
 use std::io;
 use std::io::Read;
 
@@ -21,53 +21,31 @@ const ROOM: usize = 65536;
 // The line of the mesh: this one where it starts with =, else the one before.
 fn mesh_line(script: &[u8], at: usize, before: usize) -> usize {
     if text::has_at(script, at, b'=') {
-        return at;
+        at
+    } else {
+        before
     }
-    before
-}
-
-fn print_part(rt: &impl Print, script: &[u8], from: usize, end: usize) -> io::Result<()> {
-    if end > script.len() {
-        return Ok(());
-    }
-    if from > end {
-        return Ok(());
-    }
-    rt.write_all(&script[from..end])
 }
 
 // The name of a line without its = and blank, and the answer.
 fn print_line(rt: &impl Print, script: &[u8], at: usize, number: u32) -> io::Result<()> {
-    print_part(
-        rt,
-        script,
-        text::name_start(script, at),
-        text::name_end(script, at),
-    )?;
+    let start = text::name_start(script, at);
+    let end = text::name_end(script, at);
+    rt.write_all(script.get(start..end).unwrap_or(&[]))?;
     println!(rt; ": {number}")
 }
 
-fn run(
-    rt: &impl Print,
-    script: &[u8],
-    vertices: &mut [VertexRow],
-    positions: &mut [PositionRow],
-    arcs: &mut [ArcRow],
-    edges: &mut [EdgeRow],
-    faces: &mut [FaceRow],
-) -> io::Result<()> {
+fn run(rt: &impl Print, script: &[u8], mesh: &mut MeshMut) -> io::Result<()> {
     let mut base: usize = 0;
     let mut at: usize = 0;
-    let mut i: usize = 0;
-    while i < MOST_LINES {
+    for _ in 0..MOST_LINES {
         if at >= script.len() {
             return Ok(());
         }
         base = mesh_line(script, at, base);
-        let number = mesh::answer_to(script, base, at, vertices, positions, arcs, edges, faces);
+        let number = mesh::answer_to(script, base, at, mesh);
         print_line(rt, script, at, number)?;
         at = text::after_line(script, at);
-        i += 1;
     }
     Ok(())
 }
@@ -95,15 +73,16 @@ fn run_input(rt: &impl Print, reader: &mut impl Read, space: &mut [u8]) -> io::R
     let mut arcs = [[0u32; 6]; 16386];
     let mut edges = [[0u32; 3]; 8193];
     let mut faces = [[0u32; 3]; 4097];
-    run(
-        rt,
-        &space[..n],
-        &mut vertices,
-        &mut positions,
-        &mut arcs,
-        &mut edges,
-        &mut faces,
-    )
+    let mut counters = [0u32; 3];
+    let mut mesh = MeshMut {
+        vertices: &mut vertices,
+        positions: &mut positions,
+        arcs: &mut arcs,
+        edges: &mut edges,
+        faces: &mut faces,
+        counters: &mut counters,
+    };
+    run(rt, &space[..n], &mut mesh)
 }
 
 fn main(rt: HostRuntime) -> io::Result<()> {

@@ -5,40 +5,39 @@
 pub struct Read {
     pub value: u32,
     pub next: usize,
-    pub some: bool,
 }
 
-// A store that was read: into which table, at which link and cell, what; and the place after it.
+// What a store goes into: a table, the counters, or how many rows of each table there are.
+#[derive(Clone, Copy)]
+pub enum Target {
+    Vertices,
+    Arcs,
+    Edges,
+    Faces,
+    Counters,
+    Positions,
+    Sizes,
+}
+
+// A store that was read: into what, where the script's number says, at which link and cell, what; and the place after it.
 #[derive(Clone, Copy)]
 pub struct Store {
-    pub table: u32,
+    pub target: Option<Target>,
     pub link: u32,
     pub cell: usize,
     pub value: u32,
     pub next: usize,
-    pub some: bool,
 }
-
-const MOST_STORES: usize = 4000;
 
 // The place of a byte from a place on, or of the text's end.
 fn place_of(text: &[u8], from: usize, byte: u8) -> usize {
-    let mut i = from;
-    while i < text.len() {
-        if text[i] == byte {
-            return i;
-        }
-        i += 1;
-    }
-    i
+    let rest = text.get(from..).unwrap_or(&[]);
+    let found = rest.iter().position(|b| *b == byte);
+    from.saturating_add(found.unwrap_or(rest.len()))
 }
 
-// One more, short of the top.
 fn past(i: usize) -> usize {
-    if i > 65536 {
-        return i;
-    }
-    i + 1
+    i.saturating_add(1)
 }
 
 // The place after the line.
@@ -66,94 +65,69 @@ pub fn stores_start(text: &[u8], from: usize) -> usize {
 
 // Whether a place has the byte.
 pub fn has_at(text: &[u8], at: usize, byte: u8) -> bool {
-    if at >= text.len() {
-        return false;
-    }
-    text[at] == byte
+    text.get(at) == Some(&byte)
 }
 
-fn digit_at(text: &[u8], at: usize) -> bool {
-    if at >= text.len() {
-        return false;
+// The digit at a place, if there is one.
+fn digit_at(text: &[u8], at: usize) -> Option<u32> {
+    let byte = *text.get(at)?;
+    if byte.is_ascii_digit() {
+        return Some(byte as u32 - 48);
     }
-    if text[at] < b'0' {
-        return false;
-    }
-    text[at] <= b'9'
+    None
 }
 
 // One digit more, unless the number leaves 32 bits.
-fn with_digit(value: u32, byte: u8) -> u32 {
-    if byte < 48 {
-        return value;
-    }
-    let more = (value as u64) * 10 + (byte as u64 - 48);
-    if more > 4294967295 {
-        return value;
-    }
-    more as u32
+fn with_digit(value: u32, digit: u32) -> u32 {
+    value
+        .checked_mul(10)
+        .and_then(|tens| tens.checked_add(digit))
+        .unwrap_or(value)
 }
 
-// The number after one blank, or none.
-fn number(text: &[u8], from: usize) -> Read {
-    let mut value: u32 = 0;
+// The number after one blank, if there is one.
+fn number(text: &[u8], from: usize) -> Option<Read> {
     if !has_at(text, from, b' ') {
-        return Read {
-            value,
-            next: from,
-            some: false,
-        };
+        return None;
     }
     let start = past(from);
-    if !digit_at(text, start) {
-        return Read {
-            value,
-            next: from,
-            some: false,
+    let mut value = digit_at(text, start)?;
+    for i in past(start)..text.len() {
+        let Some(digit) = digit_at(text, i) else {
+            return Some(Read { value, next: i });
         };
+        value = with_digit(value, digit);
     }
-    let mut i = start;
-    while i < text.len() {
-        if !digit_at(text, i) {
-            break;
-        }
-        value = with_digit(value, text[i]);
-        i += 1;
-    }
-    Read {
+    Some(Read {
         value,
-        next: i,
-        some: true,
+        next: text.len(),
+    })
+}
+
+fn target_of(code: u32) -> Option<Target> {
+    match code {
+        0 => Some(Target::Vertices),
+        1 => Some(Target::Arcs),
+        2 => Some(Target::Edges),
+        3 => Some(Target::Faces),
+        4 => Some(Target::Counters),
+        5 => Some(Target::Positions),
+        6 => Some(Target::Sizes),
+        _ => None,
     }
 }
 
-// The store at a place, or none.
-pub fn store_at(text: &[u8], from: usize) -> Store {
-    let table = number(text, from);
-    let link = number(text, table.next);
-    let cell = number(text, link.next);
-    let value = number(text, cell.next);
-    Store {
-        table: table.value,
+// The store at a place, if there is one.
+pub fn store_at(text: &[u8], from: usize) -> Option<Store> {
+    let code = number(text, from)?;
+    let link = number(text, code.next)?;
+    let cell = number(text, link.next)?;
+    let value = number(text, cell.next)?;
+    Some(Store {
+        target: target_of(code.value),
         link: link.value,
         cell: cell.value as usize,
         value: value.value,
         next: value.next,
-        some: value.some,
-    }
-}
-
-// How many stores stand from a place on.
-pub fn stores_from(text: &[u8], from: usize) -> usize {
-    let mut at = from;
-    let mut n: usize = 0;
-    while n < MOST_STORES {
-        let s = store_at(text, at);
-        if !s.some {
-            return n;
-        }
-        at = s.next;
-        n += 1;
-    }
-    n
+    })
 }

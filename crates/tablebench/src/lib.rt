@@ -8,7 +8,7 @@ ghost use Rattle.rules.specs.Mesh.{arc_between, room};
 ghost use Rattle.rules.specs.Call.{zeroed};
 ghost use Rattle.tables.specs.Sets.{set_over};
 
-use rules::{ArcRow, EdgeRow, FaceRow, PositionRow, VertexRow};
+use rules::{ArcRow, EdgeRow, FaceRow, MeshRef, PositionRow, RoomMut, VertexRow};
 
 // The arc from the vertex a to the vertex b, by their links, or 0.
 #[unsafe(no_mangle)]
@@ -36,18 +36,22 @@ pub extern "C" fn tablebench_copy_set(
         ≡ set_over (room from_vertices.now from_positions.now from_arcs.now from_edges.now from_faces.now)
         (room vertices.old positions.old arcs.old edges.old faces.old) }
 {
-    tables::sets::copy_set(
+    let mut room = RoomMut {
         vertices,
         positions,
         arcs,
         edges,
         faces,
-        from_vertices,
-        from_positions,
-        from_arcs,
-        from_edges,
-        from_faces,
-    );
+    };
+    let mesh = MeshRef {
+        vertices: from_vertices,
+        positions: from_positions,
+        arcs: from_arcs,
+        edges: from_edges,
+        faces: from_faces,
+        counters: &[0; 3],
+    };
+    tables::sets::copy_set(&mut room, mesh);
 }
 
 // Every row of every table becomes zero.
@@ -61,5 +65,12 @@ pub extern "C" fn tablebench_zero_set(
 )
     ensures { room vertices.new positions.new arcs.new edges.new faces.new ≡ zeroed (room vertices.old positions.old arcs.old edges.old faces.old) }
 {
-    tables::sets::zero_set(vertices, positions, arcs, edges, faces);
+    let mut room = RoomMut {
+        vertices,
+        positions,
+        arcs,
+        edges,
+        faces,
+    };
+    tables::sets::zero_set(&mut room);
 }

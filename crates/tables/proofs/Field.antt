@@ -57,3 +57,10 @@ unfolding is_nan ne eq
 not-nan nan e = subst T e tt
 not-nan (inf s) e = tt
 not-nan (fin s m k) e = tt
+
+-- the one pattern of a NaN
+pub nan-bits : (x : Float) → true ≡ is_nan x → 9221120237041090560 ≡ to_bits binary64 x
+unfolding to_bits is_nan
+nan-bits nan e = refl
+nan-bits (inf s) e = absurd (subst T e tt)
+nan-bits (fin s m k) e = absurd (subst T e tt)

@@ -4,4 +4,3 @@ pub mod Field
 pub mod Lists
 pub mod Exact
 pub mod Runs
-pub mod ZeroRows

@@ -7,7 +7,7 @@ use native.Mathlib.Numerals.{add-one}
 use native.Mathlib.Decide.{dec_le}
 use native.Mathlib.Omega.{arith}
 use lib.ListN.{length, set, get_or, take, drop, replicate, drop_of_length-le}
-use lib.Seq.{take_all, set-set, get_or-set_same}
+use lib.Seq.{take_all}
 use Rattle.tables.specs.Sets.{over}
 
 module _ {A : Type 0} where
@@ -73,21 +73,3 @@ module _ {A : Type 0} where
       let first : x ≡ v = h 0 (omega arith) in
       let rest : d ≡ fill v n d = fill-same n v z d (le_of_suc-le-suc l) (λ k q. h (suc k) (omega arith)) in
       λ i. first i ∷ rest i
-
--- ---- three cells of a row made zero one after the other
-
-module _ (t : List (List ℕ)) (i : ℕ) (l : i < length t) where
-  cell-more : (r : List ℕ) (c : ℕ) → set (set t i r) i (set (get_or (set t i r) i []) c 0) ≡ set t i (set r c 0)
-  cell-more r c = set-set t i r _ ∙ ap (λ (x : List ℕ). set t i (set x c 0)) (get_or-set_same t i r [] l)
-
-  all_three : (r : List ℕ) → length r ≡ 3 → set (set (set r 0 0) 1 0) 2 0 ≡ 0 ∷ 0 ∷ 0 ∷ []
-  all_three (a ∷ b ∷ c ∷ []) e = refl
-  all_three [] e = absurd (omega arith)
-  all_three (a ∷ []) e = absurd (omega arith)
-  all_three (a ∷ b ∷ []) e = absurd (omega arith)
-  all_three (a ∷ b ∷ c ∷ d ∷ r) e = absurd (omega arith)
-
-  pub three-cells : length (get_or t i []) ≡ 3 → (let r = set (get_or t i []) 0 0 in let u = set t i r in let w = set u i (set (get_or u i []) 1 0) in set w i (set (get_or w i []) 2 0) ≡ set t i (0 ∷ 0 ∷ 0 ∷ []))
-  three-cells e =
-      let r : List ℕ = set (get_or t i []) 0 0 in
-      ap (λ (w : List (List ℕ)). set w i (set (get_or w i []) 2 0)) (cell-more r 1) ∙ cell-more (set r 1 0) 2 ∙ ap (set t i) (all_three (get_or t i []) e)

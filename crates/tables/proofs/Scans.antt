@@ -9,6 +9,7 @@ use lib.ListN.{length, get_or, drop, drop_of_length-le, get_or-eq_default}
 use lib.Seq.{drop-cons}
 use lib.Dec.{leb}
 use borrow.Author.Tests.{le-leb, lt-leb}
+use Rattle.std.proofs.lemmas.List.{get_or_default}
 use Rattle.rules.specs.Table.{Table, row_limit, link_into, first_row, count}
 use Rattle.rules.specs.Mesh.{keyed, find_key}
 use Rattle.rules.proofs.Scan.{none_passes, first_passes}
@@ -27,6 +28,10 @@ module _ {A : Type 0} where
   into-fits t l h = rw (le-leb (length t) row_limit h)
 
   module _ (p : A → Bool) (t : List A) (d : A) where
+    -- the row that a loop has reached, with what the test says of it
+    pub reached : (i : ℕ) (r : A) (b c : Bool) → i < length t → r ≡ get_or t i r → b ≡ p r → b ≡ c → p (get_or t i d) ≡ c
+    reached i r b c l e t1 t2 = rw (get_or_default t i d r l, ← e, ← t1) t2
+
     -- the rows before i fail the test
     abbrev pub Missed : ℕ → Type 0
     Missed i = (k : ℕ) → k < i → p (get_or t k d) ≡ false

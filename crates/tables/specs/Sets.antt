@@ -1,5 +1,6 @@
 -- One table copied over another, and one set of tables over another; and rows that are zero already.
 use Rattle.std.specs.Prelude.{ℕ, ◌≤◌, ◌<◌, ◌≡◌, List, [], ◌++◌, length, get_or, take, drop, replicate}
+use Rattle.rules.specs.declared.MeshRef.{MeshRef}
 use Rattle.rules.specs.Table.{Table}
 use Rattle.rules.specs.Mesh.{Room, room}
 
@@ -12,6 +13,10 @@ unfoldable pub set_over : Room → Room → Room
 set_over s d =
     room (over s.vertices d.vertices) (over s.positions d.positions) (over s.arcs d.arcs)
     (over s.edges d.edges) (over s.faces d.faces)
+
+-- the five tables of a mesh that is lent for reading
+abbrev pub tables_in : MeshRef → Room
+tables_in m = room m.vertices.now m.positions.now m.arcs.now m.edges.now m.faces.now
 
 -- rows of so many cells: those from i up to r are zero
 abbrev pub ZeroRows : ℕ → Table → ℕ → ℕ → Type 0

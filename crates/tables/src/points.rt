@@ -3,11 +3,20 @@
 // "Here a move is a choice of two": a Shift is one rounded sum for each coordinate, a Scale three rounded operations in a fixed order.
 
 ghost use Rattle.std.specs.Prelude.{◌≡◌};
+ghost use Rattle.std.specs.Float.{binary64};
+ghost use Rattle.std.specs.Float.Ieee.{to_bits};
 ghost use Rattle.std.specs.Float.Ieee.Scale as Scale;
 ghost use Rattle.rules.specs.Table.{put_row};
 ghost use Rattle.rules.specs.Point as Point;
 
 use rules::{Move, Position, PositionRow};
+
+// The position of nothing.
+const ZERO: Position = Position {
+    x: 0.0,
+    y: 0.0,
+    z: 0.0,
+};
 
 // ---- one number
 
@@ -32,32 +41,30 @@ pub fn zero_bits(x: f64) -> bool
     f64::to_bits(x) == 0
 }
 
+// Its 64 bits, and for a NaN, which no sound mesh has, one pattern.
+pub fn bits_of(x: f64) -> u64
+    ensures { result ≡ to_bits binary64 x }
+{
+    if x.is_nan() {
+        return 0x7ff8000000000000;
+    }
+    x.to_bits()
+}
+
 // ---- positions and moves
 
 // Whether all three coordinates are finite.
 pub fn finite_position(p: Position) -> bool
     ensures { result ≡ Point.finite_position p }
 {
-    if !finite(p.x) {
-        return false;
-    }
-    if !finite(p.y) {
-        return false;
-    }
-    finite(p.z)
+    finite(p.x) && finite(p.y) && finite(p.z)
 }
 
 // Whether two positions are in one spot: all three coordinates equal as floats, so that -0 equals 0.
 pub fn same_place(p: Position, q: Position) -> bool
     ensures { result ≡ Point.same_place p q }
 {
-    if p.x != q.x {
-        return false;
-    }
-    if p.y != q.y {
-        return false;
-    }
-    p.z == q.z
+    p.x == q.x && p.y == q.y && p.z == q.z
 }
 
 // Whether the numbers that a move gives are finite.
@@ -71,14 +78,12 @@ pub fn finite_move(m: Move) -> bool
             z: dz,
         }),
         Move::Scale { ox, oy, oz, factor } => {
-            if !finite_position(Position {
+            let centre = Position {
                 x: ox,
                 y: oy,
                 z: oz,
-            }) {
-                return false;
-            }
-            finite(factor)
+            };
+            finite_position(centre) && finite(factor)
         }
     }
 }
@@ -107,26 +112,12 @@ pub fn moved(p: Position, m: Move) -> Position
 pub fn position_at(ps: &[PositionRow], v: u32) -> Position
     ensures { result ≡ Point.position_at ps.now v }
 {
-    if v == 0 {
-        return Position {
-            x: 0.0,
-            y: 0.0,
-            z: 0.0,
-        };
+    let i = v as usize;
+    if i == 0 || i > ps.len() {
+        return ZERO;
     }
-    let i = v as usize - 1;
-    if i >= ps.len() {
-        return Position {
-            x: 0.0,
-            y: 0.0,
-            z: 0.0,
-        };
-    }
-    Position {
-        x: ps[i][0],
-        y: ps[i][1],
-        z: ps[i][2],
-    }
+    let [x, y, z] = ps[i - 1];
+    Position { x, y, z }
 }
 
 // The position into the row that a link names. Nothing is written through none, or past the table.
@@ -137,8 +128,7 @@ pub fn put_position(ps: &mut [PositionRow], v: u32, p: Position)
         return;
     }
     let i = v as usize - 1;
-    if i >= ps.len() {
-        return;
+    if i < ps.len() {
+        ps[i] = [p.x, p.y, p.z];
     }
-    ps[i] = [p.x, p.y, p.z];
 }

@@ -2,14 +2,16 @@
 // A link is a row plus one and 0 is none. Reading through none, past the table or past the row gives 0; writing there changes nothing.
 // It carries lookup by key in row tables (document 01, "What must change shape").
 
-ghost use Rattle.std.specs.Prelude.{◌≡◌, not, ◌&&◌, ◌-◌, length, eqb};
-ghost use Rattle.rules.specs.Table.{cell, put, put_row, first_row, link_into, count, used, unused};
-ghost use Rattle.rules.specs.Mesh.{keyed, find_key, arc_between, opposite_of};
+// Kept: a lookup answers a link as rows hold it, 0 for none: document 01's tables and the definitions (rules/specs/Mesh) name it so.
 
-use rules::{ArcRow, EdgeRow, VertexRow};
+ghost use Rattle.std.specs.Prelude.{◌≡◌, get_or, set};
+ghost use Rattle.rules.specs.Table.{cell, put, put_row, first_row, link_into, count, used, unused};
+ghost use Rattle.rules.specs.Mesh.{keyed, find_key, joins, arc_between, opposite_of};
+
+use rules::{ArcRow, EdgeRow};
 
 // The largest table that has links to give.
-const ROW_LIMIT: usize = 16384;
+pub const ROW_LIMIT: usize = 16384;
 
 // ---- one cell, by its link
 
@@ -20,287 +22,143 @@ pub fn wide(x: u32) -> usize
     x as usize
 }
 
-// They say only how many cells a row has, which a slice of rows does not tell.
-pub fn known2(row: VertexRow)
-    ensures { length row ≡ 2 }
-{}
-
-pub fn known3(row: EdgeRow)
-    ensures { length row ≡ 3 }
-{}
-
-pub fn known6(row: ArcRow)
-    ensures { length row ≡ 6 }
-{}
-
-// Cell c of the row that the link l names, in a table of each width.
-pub fn cell2(t: &[VertexRow], l: u32, c: usize) -> u32
-    ensures { result ≡ cell t.now l c }
+// Cell c of a row: past its end it reads as 0.
+fn cell_of<const N: usize>(row: &[u32; N], c: usize) -> u32
+    ensures { result ≡ get_or row.now c 0 }
 {
-    if l == 0 {
-        return 0;
+    match row.get(c) {
+        Some(x) => *x,
+        None => 0,
     }
-    let i = l as usize - 1;
-    if i >= t.len() {
-        return 0;
-    }
-    known2(t[i]);
-    if c >= 2 {
-        return 0;
-    }
-    t[i][c]
 }
 
-pub fn cell3(t: &[EdgeRow], l: u32, c: usize) -> u32
+// Cell c of the row that the link l names, in a table of any width.
+pub fn cell<const N: usize>(t: &[[u32; N]], l: u32, c: usize) -> u32
     ensures { result ≡ cell t.now l c }
 {
     if l == 0 {
         return 0;
     }
-    let i = l as usize - 1;
-    if i >= t.len() {
-        return 0;
+    match t.get(l as usize - 1) {
+        Some(row) => cell_of(row, c),
+        None => 0,
     }
-    known3(t[i]);
-    if c >= 3 {
-        return 0;
-    }
-    t[i][c]
 }
 
-pub fn cell6(t: &[ArcRow], l: u32, c: usize) -> u32
-    ensures { result ≡ cell t.now l c }
+// Cell c of a row becomes v: past its end nothing changes.
+fn put_in<const N: usize>(row: &mut [u32; N], c: usize, v: u32)
+    ensures { row.new ≡ set row.old c v }
 {
-    if l == 0 {
-        return 0;
+    if c < N {
+        row[c] = v;
     }
-    let i = l as usize - 1;
-    if i >= t.len() {
-        return 0;
-    }
-    known6(t[i]);
-    if c >= 6 {
-        return 0;
-    }
-    t[i][c]
 }
 
 // That cell becomes v.
-pub fn put2(t: &mut [VertexRow], l: u32, c: usize, v: u32)
+pub fn put<const N: usize>(t: &mut [[u32; N]], l: u32, c: usize, v: u32)
     ensures { t.new ≡ put t.old l c v }
 {
     if l == 0 {
         return;
     }
     let i = l as usize - 1;
-    if i >= t.len() {
-        return;
+    if i < t.len() {
+        put_in(&mut t[i], c, v);
     }
-    known2(t[i]);
-    if c >= 2 {
-        return;
-    }
-    t[i][c] = v;
-}
-
-pub fn put3(t: &mut [EdgeRow], l: u32, c: usize, v: u32)
-    ensures { t.new ≡ put t.old l c v }
-{
-    if l == 0 {
-        return;
-    }
-    let i = l as usize - 1;
-    if i >= t.len() {
-        return;
-    }
-    known3(t[i]);
-    if c >= 3 {
-        return;
-    }
-    t[i][c] = v;
-}
-
-pub fn put6(t: &mut [ArcRow], l: u32, c: usize, v: u32)
-    ensures { t.new ≡ put t.old l c v }
-{
-    if l == 0 {
-        return;
-    }
-    let i = l as usize - 1;
-    if i >= t.len() {
-        return;
-    }
-    known6(t[i]);
-    if c >= 6 {
-        return;
-    }
-    t[i][c] = v;
 }
 
 // ---- one row, by its link
 
 // That whole row becomes another.
-pub fn put_row2(t: &mut [VertexRow], l: u32, row: VertexRow)
-    ensures { t.new ≡ put_row t.old l row }
+pub fn put_row<const N: usize>(t: &mut [[u32; N]], l: u32, row: [u32; N])
+    ensures { t.new ≡ put_row t.old l row.entry }
 {
     if l == 0 {
         return;
     }
     let i = l as usize - 1;
-    if i >= t.len() {
-        return;
+    if i < t.len() {
+        t[i] = row;
     }
-    t[i] = row;
-}
-
-pub fn put_row3(t: &mut [EdgeRow], l: u32, row: EdgeRow)
-    ensures { t.new ≡ put_row t.old l row }
-{
-    if l == 0 {
-        return;
-    }
-    let i = l as usize - 1;
-    if i >= t.len() {
-        return;
-    }
-    t[i] = row;
-}
-
-pub fn put_row6(t: &mut [ArcRow], l: u32, row: ArcRow)
-    ensures { t.new ≡ put_row t.old l row }
-{
-    if l == 0 {
-        return;
-    }
-    let i = l as usize - 1;
-    if i >= t.len() {
-        return;
-    }
-    t[i] = row;
 }
 
 // ---- scans
 
-// How many rows are unused, and of the arcs how many are used.
-pub fn count_free2(t: &[VertexRow]) -> usize
+// How many rows are unused, and how many are used.
+// Kept: as a filter that is counted, the closure has to state its own contract in three lines (checks/src/free.rt), longer than the loop.
+pub fn count_free<const N: usize>(t: &[[u32; N]]) -> usize
     ensures { result ≡ count unused t.now }
 {
-    let mut n: usize = 0;
-    let mut i = 0;
-    while i < t.len() {
-        if t[i][0] == 0 {
+    let mut n = 0;
+    for row in t {
+        if cell_of(row, 0) == 0 {
             n += 1;
         }
-        i += 1;
     }
     n
 }
 
-pub fn count_free3(t: &[EdgeRow]) -> usize
-    ensures { result ≡ count unused t.now }
-{
-    let mut n: usize = 0;
-    let mut i = 0;
-    while i < t.len() {
-        if t[i][0] == 0 {
-            n += 1;
-        }
-        i += 1;
-    }
-    n
-}
-
-pub fn count_used6(t: &[ArcRow]) -> usize
+pub fn count_used<const N: usize>(t: &[[u32; N]]) -> usize
     ensures { result ≡ count used t.now }
 {
-    let mut n: usize = 0;
-    let mut i = 0;
-    while i < t.len() {
-        if t[i][0] != 0 {
+    let mut n = 0;
+    for row in t {
+        if cell_of(row, 0) != 0 {
             n += 1;
         }
-        i += 1;
     }
     n
 }
 
 // ---- lookup
 
-// Whether the first cell of a row holds the key: an unused row holds none.
-fn holds_key(first: u32, key: u32) -> bool
-    ensures { result ≡ (not (eqb first 0) && eqb (first - 1) key) }
+// Whether a row holds the key: an unused row holds none.
+fn holds_key<const N: usize>(row: &[u32; N], key: u32) -> bool
+    ensures { result ≡ keyed key row.now }
 {
-    if first == 0 {
-        return false;
-    }
-    first - 1 == key
+    let held = cell_of(row, 0);
+    held != 0 && held - 1 == key
 }
 
 // The first row with the key.
-fn scan_key2(t: &[VertexRow], key: u32) -> u32
+// Kept: 0 for none is what a table's cell holds, by document 01's links.
+fn scan_key<const N: usize>(t: &[[u32; N]], key: u32) -> u32
     ensures { result ≡ link_into t.now (first_row (keyed key) t.now) }
 {
     if t.len() > ROW_LIMIT {
         return 0;
     }
-    let mut i = 0;
-    while i < t.len() {
-        if holds_key(t[i][0], key) {
+    // Kept: `position` was tried, and the proof for rows of any width did not close.
+    for (i, row) in t.iter().enumerate() {
+        if holds_key(row, key) {
             return i as u32 + 1;
         }
-        i += 1;
-    }
-    0
-}
-
-fn scan_key3(t: &[EdgeRow], key: u32) -> u32
-    ensures { result ≡ link_into t.now (first_row (keyed key) t.now) }
-{
-    if t.len() > ROW_LIMIT {
-        return 0;
-    }
-    let mut i = 0;
-    while i < t.len() {
-        if holds_key(t[i][0], key) {
-            return i as u32 + 1;
-        }
-        i += 1;
     }
     0
 }
 
 // The row with the key: the likely row, which is row key while no record was removed, and else the first that has it.
-pub fn find_key2(t: &[VertexRow], key: u32) -> u32
+pub fn find_key<const N: usize>(t: &[[u32; N]], key: u32) -> u32
     ensures { result ≡ find_key t.now key }
 {
     if t.len() > ROW_LIMIT {
         return 0;
     }
-    let likely = key as usize;
-    if likely < t.len() {
-        if holds_key(t[likely][0], key) {
-            return key + 1;
-        }
+    match t.get(key as usize) {
+        Some(row) if holds_key(row, key) => key + 1,
+        _ => scan_key(t, key),
     }
-    scan_key2(t, key)
 }
 
-pub fn find_key3(t: &[EdgeRow], key: u32) -> u32
-    ensures { result ≡ find_key t.now key }
+// Whether the arc of a row leads from the vertex a to the vertex b.
+fn joins(row: &ArcRow, a: u32, b: u32) -> bool
+    ensures { result ≡ joins a b row.now }
 {
-    if t.len() > ROW_LIMIT {
-        return 0;
-    }
-    let likely = key as usize;
-    if likely < t.len() {
-        if holds_key(t[likely][0], key) {
-            return key + 1;
-        }
-    }
-    scan_key3(t, key)
+    row[0] == a && row[1] == b
 }
 
 // The arc from the vertex a to the vertex b, by their links: none leads from none.
+// Kept: the hot search of all arcs; as in scan_key, `position` leaves the link to be worked out after it, and the loop answers it where it finds it.
 pub fn find_arc(arcs: &[ArcRow], a: u32, b: u32) -> u32
     ensures { result ≡ arc_between arcs.now a b }
 {
@@ -310,14 +168,10 @@ pub fn find_arc(arcs: &[ArcRow], a: u32, b: u32) -> u32
     if arcs.len() > ROW_LIMIT {
         return 0;
     }
-    let mut i = 0;
-    while i < arcs.len() {
-        if arcs[i][0] == a {
-            if arcs[i][1] == b {
-                return i as u32 + 1;
-            }
+    for (arc, row) in arcs.iter().enumerate() {
+        if joins(row, a, b) {
+            return arc as u32 + 1;
         }
-        i += 1;
     }
     0
 }
@@ -326,10 +180,10 @@ pub fn find_arc(arcs: &[ArcRow], a: u32, b: u32) -> u32
 pub fn opposite(arcs: &[ArcRow], edges: &[EdgeRow], x: u32) -> u32
     ensures { result ≡ opposite_of arcs.now edges.now x }
 {
-    let edge = cell6(arcs, x, 5);
-    let named = cell3(edges, edge, 1);
+    let edge = cell(arcs, x, 5);
+    let named = cell(edges, edge, 1);
     if named == x {
-        return cell3(edges, edge, 2);
+        return cell(edges, edge, 2);
     }
     named
 }

@@ -4,104 +4,38 @@
 ghost use Rattle.std.specs.Prelude.{◌≡◌, true, ◌+◌, ◌≤◌, length, replicate};
 ghost use Rattle.tables.specs.Sets.{ZeroRows, ZeroTo};
 
-use crate::rows;
-use rules::{ArcRow, EdgeRow, VertexRow};
-
 // Whether every cell of a row is zero.
-fn zero_row2(row: VertexRow) -> bool
-    ensures { result ≡ true → row ≡ replicate 2 0 }
+// Kept: no branch for each row: `all` stops at the first that fails, and the tests of a block are to be put together.
+fn zero_row<const N: usize>(row: &[u32; N]) -> bool
+    ensures { result ≡ true → row.now ≡ replicate N 0 }
 {
-    rows::known2(row);
-    (row[0] == 0) & (row[1] == 0)
-}
-
-fn zero_row3(row: EdgeRow) -> bool
-    ensures { result ≡ true → row ≡ replicate 3 0 }
-{
-    rows::known3(row);
-    (row[0] == 0) & (row[1] == 0) & (row[2] == 0)
-}
-
-fn zero_row6(row: ArcRow) -> bool
-    ensures { result ≡ true → row ≡ replicate 6 0 }
-{
-    rows::known6(row);
-    (row[0] == 0) & (row[1] == 0) & (row[2] == 0) & (row[3] == 0) & (row[4] == 0) & (row[5] == 0)
+    let mut zero = true;
+    for x in row {
+        zero = zero & (*x == 0);
+    }
+    zero
 }
 
 // Whether the eight rows from i on are zero.
-fn zero_block2(t: &[VertexRow], i: usize) -> bool
+fn zero_block<const N: usize>(t: &[[u32; N]], i: usize) -> bool
     requires { i + 8 ≤ length t.now }
-    ensures { result ≡ true → ZeroRows 2 t.now i (i + 8) }
+    ensures { result ≡ true → ZeroRows N t.now i (i + 8) }
 {
     let mut zero = true;
-    let mut k: usize = 0;
-    while k < 8 {
-        zero = zero & zero_row2(t[i + k]);
-        k += 1;
-    }
-    zero
-}
-
-fn zero_block3(t: &[EdgeRow], i: usize) -> bool
-    requires { i + 8 ≤ length t.now }
-    ensures { result ≡ true → ZeroRows 3 t.now i (i + 8) }
-{
-    let mut zero = true;
-    let mut k: usize = 0;
-    while k < 8 {
-        zero = zero & zero_row3(t[i + k]);
-        k += 1;
-    }
-    zero
-}
-
-fn zero_block6(t: &[ArcRow], i: usize) -> bool
-    requires { i + 8 ≤ length t.now }
-    ensures { result ≡ true → ZeroRows 6 t.now i (i + 8) }
-{
-    let mut zero = true;
-    let mut k: usize = 0;
-    while k < 8 {
-        zero = zero & zero_row6(t[i + k]);
-        k += 1;
+    for k in 0..8 {
+        zero = zero & zero_row(&t[i + k]);
     }
     zero
 }
 
 // Goes on from the first row by whole blocks of zero rows: the row where it stops.
-pub fn skip2(t: &[VertexRow]) -> usize
-    ensures { ZeroTo 2 t.now result }
+// Kept: it steps by eight and answers the row where it stops; a `for` over blocks would have to work the row out twice.
+pub fn skip<const N: usize>(t: &[[u32; N]]) -> usize
+    ensures { ZeroTo N t.now result }
 {
     let mut i: usize = 0;
     while t.len() - i >= 8 {
-        if !zero_block2(t, i) {
-            return i;
-        }
-        i += 8;
-    }
-    i
-}
-
-pub fn skip3(t: &[EdgeRow]) -> usize
-    ensures { ZeroTo 3 t.now result }
-{
-    let mut i: usize = 0;
-    while t.len() - i >= 8 {
-        if !zero_block3(t, i) {
-            return i;
-        }
-        i += 8;
-    }
-    i
-}
-
-pub fn skip6(t: &[ArcRow]) -> usize
-    ensures { ZeroTo 6 t.now result }
-{
-    let mut i: usize = 0;
-    while t.len() - i >= 8 {
-        if !zero_block6(t, i) {
+        if !zero_block(t, i) {
             return i;
         }
         i += 8;

@@ -7,39 +7,39 @@ use std::io;
 use tables::rows;
 
 pub fn source(rt: &impl Print, arcs: &[ArcRow], x: u32) -> io::Result<()> {
-    say::number_of(rt, "source of arc ", x, rows::cell6(arcs, x, 0))
+    say::number_of(rt, "source of arc ", x, rows::cell(arcs, x, 0))
 }
 
 pub fn next(rt: &impl Print, arcs: &[ArcRow], x: u32) -> io::Result<()> {
-    say::number_of(rt, "next of arc ", x, rows::cell6(arcs, x, 2))
+    say::number_of(rt, "next of arc ", x, rows::cell(arcs, x, 2))
 }
 
 pub fn previous(rt: &impl Print, arcs: &[ArcRow], x: u32) -> io::Result<()> {
-    say::number_of(rt, "previous of arc ", x, rows::cell6(arcs, x, 3))
+    say::number_of(rt, "previous of arc ", x, rows::cell(arcs, x, 3))
 }
 
 pub fn face(rt: &impl Print, arcs: &[ArcRow], x: u32) -> io::Result<()> {
-    say::number_of(rt, "face of arc ", x, rows::cell6(arcs, x, 4))
+    say::number_of(rt, "face of arc ", x, rows::cell(arcs, x, 4))
 }
 
 pub fn leading(rt: &impl Print, vertices: &[VertexRow], v: u32) -> io::Result<()> {
-    say::number_of(rt, "leading arc of vertex ", v, rows::cell2(vertices, v, 1))
+    say::number_of(rt, "leading arc of vertex ", v, rows::cell(vertices, v, 1))
 }
 
 pub fn edge_arc(rt: &impl Print, edges: &[EdgeRow], e: u32) -> io::Result<()> {
-    say::number_of(rt, "arc named by edge ", e, rows::cell3(edges, e, 1))
+    say::number_of(rt, "arc named by edge ", e, rows::cell(edges, e, 1))
 }
 
 pub fn mark(rt: &impl Print, faces: &[EdgeRow], f: u32) -> io::Result<()> {
-    say::number_of(rt, "mark of face ", f, rows::cell3(faces, f, 2))
+    say::number_of(rt, "mark of face ", f, rows::cell(faces, f, 2))
 }
 
 pub fn vertex_by_key(rt: &impl Print, vertices: &[VertexRow], key: u32) -> io::Result<()> {
-    say::number_of(rt, "vertex with key ", key, rows::find_key2(vertices, key))
+    say::number_of(rt, "vertex with key ", key, rows::find_key(vertices, key))
 }
 
 pub fn edge_by_key(rt: &impl Print, edges: &[EdgeRow], key: u32) -> io::Result<()> {
-    say::number_of(rt, "edge with key ", key, rows::find_key3(edges, key))
+    say::number_of(rt, "edge with key ", key, rows::find_key(edges, key))
 }
 
 pub fn arc_by_ends(rt: &impl Print, arcs: &[ArcRow], a: u32, b: u32) -> io::Result<()> {
@@ -52,13 +52,13 @@ pub fn opposite(rt: &impl Print, arcs: &[ArcRow], edges: &[EdgeRow], x: u32) -> 
 }
 
 pub fn lowest_vertex(rt: &impl Print, vertices: &[VertexRow]) -> io::Result<()> {
-    say::number(rt, "lowest unused vertex", free::free2(vertices, 0))
+    say::number(rt, "lowest unused vertex", free::free_row(vertices, 0))
 }
 
 pub fn lowest_arc(rt: &impl Print, arcs: &[ArcRow]) -> io::Result<()> {
-    say::number(rt, "lowest unused arc", free::free6(arcs, 0))
+    say::number(rt, "lowest unused arc", free::free_row(arcs, 0))
 }
 
 pub fn lowest_face(rt: &impl Print, faces: &[EdgeRow]) -> io::Result<()> {
-    say::number(rt, "lowest unused face", free::free3(faces, 0))
+    say::number(rt, "lowest unused face", free::free_row(faces, 0))
 }

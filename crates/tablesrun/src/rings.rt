@@ -12,12 +12,12 @@ pub fn run(rt: &impl Print) -> io::Result<()> {
     let mut chain: [ArcRow; 70] = [row; 70];
     small(rt, &mut arcs)?;
     long(rt, &mut chain)?;
-    say::amount(
+    say::number(
         rt,
         "way from 1 to 6 on a ring of 8",
         rings::ring_distance(8, 1, 6),
     )?;
-    say::amount(
+    say::number(
         rt,
         "way from 6 to 3 on a ring of 8",
         rings::ring_distance(8, 6, 3),
@@ -47,8 +47,13 @@ fn walk(rt: &impl Print, arcs: &[ArcRow], first: u32) -> io::Result<()> {
 
 fn around(rt: &impl Print, vertices: Links) -> io::Result<()> {
     say::list(rt, "its vertices", vertices)?;
-    say::amount(rt, "place of vertex 3", rings::place_in(vertices, 3))?;
-    say::amount(rt, "place of vertex 9", rings::place_in(vertices, 9))
+    say::number(rt, "place of vertex 3", place(vertices, 3))?;
+    say::number(rt, "place of vertex 9", place(vertices, 9))
+}
+
+// A place as it is shown: from 1 on, and 0 for none.
+fn place(vertices: Links, x: u32) -> usize {
+    rings::place_in(vertices, x).map_or(0, |i| i.saturating_add(1))
 }
 
 // A chain of 70 arcs: 70, 65 and 64 to its end, then closed at 64.
@@ -62,10 +67,8 @@ fn long(rt: &impl Print, chain: &mut [ArcRow]) -> io::Result<()> {
 }
 
 fn tie(chain: &mut [ArcRow]) {
-    let mut x: u32 = 1;
-    while x < 70 {
+    for x in 1..70 {
         links::connect(chain, x, x + 1);
-        x += 1;
     }
 }
 
@@ -74,7 +77,7 @@ fn measure(rt: &impl Print, chain: &[ArcRow], first: u32) -> io::Result<()> {
     let arcs = found.links;
     let ended = found.ended;
     say::number(rt, "long ring from arc", first)?;
-    say::amount(rt, "its length", lists::size(arcs))?;
+    say::number(rt, "its length", lists::size(arcs))?;
     say::end(rt, "its end", ended)
 }
 

@@ -1,13 +1,14 @@
 // One line of output: what was asked, and what was found; or what follows.
 
 use rules::{Ended, Links};
+use std::fmt::Display;
 use std::io;
 
 pub fn title(rt: &impl Print, of: &str) -> io::Result<()> {
     println!(rt; "{of}")
 }
 
-pub fn number(rt: &impl Print, asked: &str, found: u32) -> io::Result<()> {
+pub fn number(rt: &impl Print, asked: &str, found: impl Display + Drop) -> io::Result<()> {
     println!(rt; "{asked}: {found}")
 }
 
@@ -16,23 +17,17 @@ pub fn number_of(rt: &impl Print, asked: &str, of: u32, found: u32) -> io::Resul
     println!(rt; "{asked}{of}: {found}")
 }
 
-pub fn amount(rt: &impl Print, asked: &str, found: usize) -> io::Result<()> {
-    println!(rt; "{asked}: {found}")
-}
-
 pub fn answer(rt: &impl Print, asked: &str, found: bool) -> io::Result<()> {
-    if found {
-        return println!(rt; "{asked}: yes");
-    }
-    println!(rt; "{asked}: no")
+    let word = if found { "yes" } else { "no" };
+    println!(rt; "{asked}: {word}")
 }
 
 // A number by its 64 bits, in hexadecimal: a NaN has no one pattern.
 pub fn bits(rt: &impl Print, asked: &str, found: f64) -> io::Result<()> {
-    if found != found {
+    if found.is_nan() {
         return println!(rt; "{asked}: not a number");
     }
-    println!(rt; "{asked}: {:016x}", f64::to_bits(found))
+    println!(rt; "{asked}: {:016x}", found.to_bits())
 }
 
 pub fn end(rt: &impl Print, asked: &str, found: Ended) -> io::Result<()> {
@@ -46,11 +41,8 @@ pub fn end(rt: &impl Print, asked: &str, found: Ended) -> io::Result<()> {
 // Each link of a list, after a space.
 pub fn list(rt: &impl Print, asked: &str, found: Links) -> io::Result<()> {
     print!(rt; "{asked}:")?;
-    let n = lists::size(found);
-    let mut i: usize = 0;
-    while i < n {
+    for i in 0..lists::size(found) {
         item(rt, lists::item(found, i))?;
-        i += 1;
     }
     println!(rt; "")
 }

@@ -34,9 +34,9 @@ fn read(rt: &impl Print, arcs: &[ArcRow]) -> io::Result<()> {
     cells::next(rt, arcs, 0)?;
     cells::next(rt, arcs, 8)?;
     cells::next(rt, arcs, 4294967295)?;
-    say::number(rt, "cell 6 of arc 1", rows::cell6(arcs, 1, 6))?;
+    say::number(rt, "cell 6 of arc 1", rows::cell(arcs, 1, 6))?;
     cells::lowest_arc(rt, arcs)?;
-    say::amount(rt, "used arcs", rows::count_used6(arcs))
+    say::number(rt, "used arcs", rows::count_used(arcs))
 }
 
 fn by_ends(rt: &impl Print, arcs: &[ArcRow], edges: &[EdgeRow]) -> io::Result<()> {
@@ -53,8 +53,8 @@ fn by_ends(rt: &impl Print, arcs: &[ArcRow], edges: &[EdgeRow]) -> io::Result<()
 // Through none and past the table nothing is written.
 fn nowhere(rt: &impl Print, arcs: &mut [ArcRow]) -> io::Result<()> {
     say::title(rt, "9 written as next through none, and past the table")?;
-    rows::put6(arcs, 0, 2, 9);
-    rows::put6(arcs, 8, 2, 9);
+    rows::put(arcs, 0, 2, 9);
+    rows::put(arcs, 8, 2, 9);
     cells::next(rt, arcs, 1)?;
     cells::next(rt, arcs, 7)
 }
@@ -87,5 +87,5 @@ fn by_key(rt: &impl Print, vertices: &[VertexRow]) -> io::Result<()> {
     cells::vertex_by_key(rt, vertices, 3)?;
     cells::vertex_by_key(rt, vertices, 4294967295)?;
     cells::lowest_vertex(rt, vertices)?;
-    say::amount(rt, "unused vertices", rows::count_free2(vertices))
+    say::number(rt, "unused vertices", rows::count_free(vertices))
 }

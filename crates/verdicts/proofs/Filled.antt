@@ -15,7 +15,8 @@ use Rattle.proved.proofs.Rows.{true-T}
 use Rattle.tables.specs.Sets.{set_over}
 use Rattle.tables.proofs.Lists.{over-same}
 use Rattle.file.specs.File.{Contents, contents_in, body, vertex_row, position_row, arc_row, edge_row, face_row, filled, mesh_of, tables_hold}
-use Rattle.fills.specs.Fills.{as_mesh, tables_of, RowsFor}
+use Rattle.rules.specs.Lent.{tables_of}
+use Rattle.fills.specs.Fills.{as_mesh, RowsFor}
 use Rattle.verdicts.specs.Verdicts.{SameSize, taken, judged}
 
 -- a room as long as tables that hold the records has a row for each

@@ -2,74 +2,42 @@
 // 11 if a body doesn't start where the one before ends or its keys don't rise, 7 for more records than the lent tables hold, 12 for an unsound mesh."
 
 ghost use mathlib.Core.Path.{◌≡◌};
-ghost use mathlib.Core.List.{List};
-ghost use Prim.Native.Nat.{ℕ};
-ghost use lib.Ieee.{Float};
+ghost use Rattle.std.specs.Prelude.{IfOk};
+ghost use Rattle.rules.specs.Lent.{mesh_in};
 ghost use Rattle.file.specs.File.{contents_in, tables_hold};
-ghost use Rattle.bodies.specs.Bodies.{Laid};
 ghost use Rattle.verdicts.specs.Verdicts.{first_number};
-ghost use Rattle.rules.specs.Mesh.{mesh};
+ghost use Rattle.verdicts.specs.Refusals.{number_of};
 
-use bodies::{cells, layout, records};
-use fills::holding;
-use rules::{ArcRow, EdgeRow, FaceRow, PositionRow, VertexRow};
-
-const VERTICES: usize = 0;
-
-const ARCS: usize = 1;
-
-const EDGES: usize = 2;
-
-const FACES: usize = 3;
+use crate::refusals::ReadRefusal;
+use bodies::kinds::Kind;
+use bodies::layout;
+use bodies::records::{LaidFile, WholeFile};
+use fills::holding::StorableFile;
+use rules::MeshRef;
 
 // 7: whether the lent tables hold the records.
-fn tables_hold(
-    vertices: &[VertexRow],
-    arcs: &[ArcRow],
-    edges: &[EdgeRow],
-    faces: &[FaceRow],
-    text: &[u8],
-) -> bool
-    requires { Laid text.now }
-    ensures { (p : List (List Float)) (k : List ℕ) →
-        result ≡ tables_hold (mesh vertices.now p arcs.now edges.now faces.now k) (contents_in text.now) }
+fn tables_hold(mesh: MeshRef, file: LaidFile) -> bool
+    ensures { result ≡ tables_hold (mesh_in mesh.entry) (contents_in file.entry.text.now) }
 {
-    if records::count(text, VERTICES) > vertices.len() {
-        return false;
-    }
-    if records::count(text, ARCS) > arcs.len() {
-        return false;
-    }
-    if records::count(text, EDGES) > edges.len() {
-        return false;
-    }
-    records::count(text, FACES) <= faces.len()
+    file.count(Kind::Vertices) <= mesh.vertices.len()
+        && file.count(Kind::Arcs) <= mesh.arcs.len()
+        && file.count(Kind::Edges) <= mesh.edges.len()
+        && file.count(Kind::Faces) <= mesh.faces.len()
 }
 
-// The first refusal, or 0: 10, 11, 7, and 12 where no row can hold a record.
-pub fn decide(
-    vertices: &[VertexRow],
-    positions: &[PositionRow],
-    arcs: &[ArcRow],
-    edges: &[EdgeRow],
-    faces: &[FaceRow],
-    counters: &[u32; 3],
-    text: &[u8],
-) -> u32
-    ensures { result ≡ first_number (mesh vertices.now positions.now arcs.now edges.now faces.now counters.now) text.now }
+// The file, or its first refusal: 10, 11, 7, and 12 where no row can hold a record.
+pub fn decide<'a>(mesh: MeshRef, text: &'a [u8]) -> Result<StorableFile<'a>, ReadRefusal>
+    ensures first { number_of result ≡ first_number (mesh_in mesh.entry) text.now }
+    ensures same { IfOk result (λ f. f.whole.file.text.now ≡ text.now) }
 {
-    cells::known_bytes(text);
     if !layout::length_fits(text) {
-        return 10;
+        return Err(ReadRefusal::Length);
     }
-    if !records::in_place(text) {
-        return 11;
+    let Some(whole) = WholeFile::of(text) else {
+        return Err(ReadRefusal::Places);
+    };
+    if !tables_hold(mesh, whole.file) {
+        return Err(ReadRefusal::NoRoom);
     }
-    if !tables_hold(vertices, arcs, edges, faces, text) {
-        return 7;
-    }
-    if !holding::can_hold(text) {
-        return 12;
-    }
-    0
+    StorableFile::of(whole).ok_or(ReadRefusal::Unsound)
 }

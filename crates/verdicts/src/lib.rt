@@ -4,4 +4,5 @@
 #![tactic(auto)]
 
 pub mod decide;
+pub mod refusals;
 pub mod settle;

@@ -4,75 +4,67 @@
 ghost use mathlib.Core.Path.{◌≡◌};
 ghost use mathlib.Core.Bool.{true};
 ghost use lib.Dec.{T};
+ghost use Rattle.rules.specs.Lent.{SameMesh, SameRoom, mesh_in, mesh_of, room_in, room_of, tables_of};
 ghost use Rattle.rules.specs.Sound.{within_limits};
 ghost use Rattle.file.specs.File.{contents_in, tables_hold};
-ghost use Rattle.fills.specs.Fills.{Storable};
+ghost use Rattle.fills.specs.Fills.{as_mesh};
 ghost use Rattle.verdicts.specs.Verdicts.{SameSize, taken, taken_of, judged};
-ghost use Rattle.rules.specs.Mesh.{mesh, room};
+ghost use Rattle.verdicts.specs.Refusals.{number_of};
 
 use crate::decide;
-use bodies::cells::known_bytes;
+use crate::refusals::ReadRefusal;
+use fills::holding::StorableFile;
 use fills::{cells, fill};
-use rules::{ArcRow, EdgeRow, FaceRow, PositionRow, VertexRow};
+use rules::{MeshMut, MeshRef, RoomMut, RoomRef};
 use tables::sets;
 
-// The mesh that the file holds, in room that is as long as the tables; copied over them where it is sound, else 12.
-fn settle(
-    vertices: &mut [VertexRow],
-    positions: &mut [PositionRow],
-    arcs: &mut [ArcRow],
-    edges: &mut [EdgeRow],
-    faces: &mut [FaceRow],
-    counters: &mut [u32; 3],
-    v: &mut [VertexRow],
-    p: &mut [PositionRow],
-    a: &mut [ArcRow],
-    e: &mut [EdgeRow],
-    f: &mut [FaceRow],
-    text: &[u8],
-) -> u32
-    requires storable { (Storable text.now) × T (tables_hold (mesh vertices.old positions.old arcs.old edges.old faces.old counters.old) (contents_in text.now)) }
-    requires counters_value { within_limits (mesh vertices.old positions.old arcs.old edges.old faces.old counters.old) ≡ true }
-    requires same_size { SameSize (room vertices.old positions.old arcs.old edges.old faces.old) (room v.old p.old a.old e.old f.old) }
-    ensures { taken result (mesh vertices.new positions.new arcs.new edges.new faces.new counters.new)
-        ≡ judged (mesh vertices.old positions.old arcs.old edges.old faces.old counters.old) text.now }
+// A room with counters, as a mesh to be read.
+fn seen<'a>(room: RoomRef<'a>, counters: &'a [u32; 3]) -> MeshRef<'a>
+    ensures { mesh_in result ≡ as_mesh (room_in room.entry) counters.now }
 {
-    fill::fill_set(v, p, a, e, f, text);
-    let k = cells::counters(text);
-    if !sound::queries::is_sound(v, p, a, e, f, &k) {
-        return 12;
+    MeshRef {
+        vertices: room.vertices,
+        positions: room.positions,
+        arcs: room.arcs,
+        edges: room.edges,
+        faces: room.faces,
+        counters,
     }
-    sets::copy_set(vertices, positions, arcs, edges, faces, v, p, a, e, f);
-    *counters = k;
-    0
+}
+
+// The mesh that the file holds, in room that is as long as the tables; copied over them where it is sound, else 12.
+fn settle(mesh: &mut MeshMut, room: &mut RoomMut, file: StorableFile) -> Result<(), ReadRefusal>
+    requires few { T (tables_hold (mesh_of mesh.old) (contents_in file.whole.file.text.now)) }
+    requires counters_value { within_limits (mesh_of mesh.old) ≡ true }
+    requires same_size { SameSize (tables_of (mesh_of mesh.old)) (room_of room.old) }
+    ensures judged { taken (number_of result) (mesh_of mesh.new) ≡ judged (mesh_of mesh.old) file.entry.whole.file.text.now }
+    ensures same { SameMesh mesh.old mesh.new }
+    ensures same_room { SameRoom room.old room.new }
+{
+    fill::fill_room(room, file);
+    let counters = cells::counters(file.whole.file.text);
+    let found = seen(room.view(), &counters);
+    if !sound::queries::is_sound(found) {
+        return Err(ReadRefusal::Unsound);
+    }
+    // Kept: copy_set on a room of the reborrowed fields was tried, and the proof didn't close: what it leaves there is not told of the mesh.
+    sets::copy(mesh.vertices, found.vertices);
+    sets::copy(mesh.positions, found.positions);
+    sets::copy(mesh.arcs, found.arcs);
+    sets::copy(mesh.edges, found.edges);
+    sets::copy(mesh.faces, found.faces);
+    *mesh.counters = counters;
+    Ok(())
 }
 
 // A file read, in room that is as long as the tables.
-pub fn read_in_room(
-    vertices: &mut [VertexRow],
-    positions: &mut [PositionRow],
-    arcs: &mut [ArcRow],
-    edges: &mut [EdgeRow],
-    faces: &mut [FaceRow],
-    counters: &mut [u32; 3],
-    v: &mut [VertexRow],
-    p: &mut [PositionRow],
-    a: &mut [ArcRow],
-    e: &mut [EdgeRow],
-    f: &mut [FaceRow],
-    text: &[u8],
-) -> u32
-    requires counters_value { within_limits (mesh vertices.old positions.old arcs.old edges.old faces.old counters.old) ≡ true }
-    requires same_size { SameSize (room vertices.old positions.old arcs.old edges.old faces.old) (room v.old p.old a.old e.old f.old) }
-    ensures { taken result (mesh vertices.new positions.new arcs.new edges.new faces.new counters.new)
-        ≡ taken_of (mesh vertices.old positions.old arcs.old edges.old faces.old counters.old) text.now }
+pub fn read_in_room(mesh: &mut MeshMut, room: &mut RoomMut, text: &[u8]) -> Result<(), ReadRefusal>
+    requires counters_value { within_limits (mesh_of mesh.old) ≡ true }
+    requires same_size { SameSize (tables_of (mesh_of mesh.old)) (room_of room.old) }
+    ensures taken { taken (number_of result) (mesh_of mesh.new) ≡ taken_of (mesh_of mesh.old) text.now }
+    ensures same { SameMesh mesh.old mesh.new }
+    ensures same_room { SameRoom room.old room.new }
 {
-    known_bytes(text);
-    let first = decide::decide(vertices, positions, arcs, edges, faces, counters, text);
-    if first != 0 {
-        return first;
-    }
-    settle(
-        vertices, positions, arcs, edges, faces, counters, v, p, a, e, f, text,
-    )
+    let file = decide::decide(mesh.view(), text)?;
+    settle(mesh, room, file)
 }

@@ -1,17 +1,21 @@
 -- A list of links built place by place, and read: the laws for every loop over such a list.
 use Prim.Native.Nat.{ℕ, ◌+◌, ◌≤◌, ◌<◌, min}
+use native.Mathlib.Nat.{le_refl}
+use Rattle.std.proofs.Common.{zero-le}
 use native.Mathlib.Numerals.{add-one}
 use native.Mathlib.Omega.{arith}
 use native.Mathlib.Decide.{dec_lt, ℕ_discrete}
-use mathlib.Core.Bool.{true, false}
 use mathlib.Core.Path.{◌≡◌, refl, ap, sym, ◌∙◌}
 use mathlib.Core.List.{List, [], ◌∷◌, ◌++◌, map, map-append}
 use lib.ListN.{length, get_or, take, set, length-set, length-append, length-map, get_or-eq_default, get_or-append}
-use lib.Seq.{get_or-set_same, get_or-set_other, get_or-take, take-suc, take_all, length-take-le, ext_get_or}
+use lib.Seq.{get_or-set_same, get_or-set_other, take-suc, take_all, take-take, length-take-le, ext_get_or}
 use Rattle.rules.specs.declared.Links.{Links}
 use Rattle.rules.specs.Mesh.{places_of, links_of, list_of}
 use Rattle.rules.specs.Edit.{place}
 use lib.Dec.{eqb}
+use borrow.Author.Tests.{eq-eqb, ne_eqb}
+use Rattle.std.specs.Prelude.{Option, None, Some, MatchOption}
+use Rattle.std.specs.List.{AllWithin, HoldsAt}
 use Rattle.rules.proofs.Scan.{none_passes, first_passes}
 use Rattle.rules.proofs.Places.{place_is, places-length}
 
@@ -69,28 +73,23 @@ module _ (at : List ℕ) (len n : ℕ) (size : length at ≡ 64) (en : n ≡ min
   pub list_length : length (take len at) ≡ n
   list_length = ap length (sym in_list) ∙ length-take-le n at (omega arith)
 
-  pub list_at : (k : ℕ) → k < n → get_or (take len at) k 0 ≡ get_or at k 0
-  list_at k l = ap (λ (r : List ℕ). get_or r k 0) (sym in_list) ∙ get_or-take n at k 0 l
-
 -- all of a list made of another
-pub made_all : (g : ℕ → ℕ) (list : Links) (out : List ℕ) (n : ℕ) → length list.at ≡ 64 → n ≡ min list.len 64 → Made g list.at out n → record { at = out; len = n } ≡ links_of (map g (list_of list))
+pub made_all : (g : ℕ → ℕ) (list : Links) (out : List ℕ) (n : ℕ) → length list.at ≡ 64 → n ≡ min list.len 64 → Made g (take n list.at) out n → record { at = out; len = n } ≡ links_of (map g (list_of list))
 unfolding links_of list_of
 made_all g list out n size en h =
-    let same : out ≡ places_of (map g (take list.len list.at)) = h ∙ ap (λ (r : List ℕ). places_of (map g r)) (in_list list.at list.len n size en) in
+    let all : take n (take n list.at) ≡ take list.len list.at = take-take n n list.at (le_refl n) ∙ in_list list.at list.len n size en in
+    let same : out ≡ places_of (map g (take list.len list.at)) = h ∙ ap (λ (r : List ℕ). places_of (map g r)) all in
     let many : n ≡ length (map g (take list.len list.at)) = sym (list_length list.at list.len n size en) ∙ sym (length-map (take list.len list.at) g) in
     λ i. record { at = same i; len = many i }
 
--- a scan of the list that the code holds
-module _ (list : Links) (x n : ℕ) (size : length list.at ≡ 64) (en : n ≡ min list.len 64) where
-  passed : (i : ℕ) → i ≤ n → ((k : ℕ) → k < i → eqb x (get_or list.at k 0) ≡ false) → (k : ℕ) → k < i → eqb x (get_or (take list.len list.at) k 0) ≡ false
-  passed i b h k q = ap (eqb x) (list_at list.at list.len n size en k (omega arith)) ∙ h k q
+-- ---- the first place where x stands
 
-  pub place_none : ((k : ℕ) → k < n → eqb x (get_or list.at k 0) ≡ false) → place (list_of list) x ≡ 0
-  unfolding place list_of
-  place_none h =
-      none_passes (eqb x) (take list.len list.at) 0 (λ k q. passed n (omega arith) h k (omega (arith, list_length list.at list.len n size en)))
+place_first : (xs : List ℕ) (x : ℕ) (r : Option ℕ) → MatchOption r (AllWithin (λ y. y ≡ x → ⊥) xs 0 (length xs)) (λ i. (i < length xs) × HoldsAt (λ y. y ≡ x) xs i × AllWithin (λ y. y ≡ x → ⊥) xs 0 i) → MatchOption r (place xs x ≡ 0) (λ i. place xs x ≡ i + 1)
+unfolding place
+place_first xs x None h = none_passes (eqb x) xs 0 (λ k q. ne_eqb _ _ (λ e. h k 0 zero-le q (sym e)))
+place_first xs x (Some i) h =
+    first_passes (eqb x) xs 0 i h.0 (λ k q. ne_eqb _ _ (λ e. h.2 k 0 zero-le q (sym e))) (eq-eqb _ _ (sym (h.1 0))) ∙ sym (add-one i)
 
-  pub place_found : (i : ℕ) → i < n → ((k : ℕ) → k < i → eqb x (get_or list.at k 0) ≡ false) → eqb x (get_or list.at i 0) ≡ true → place (list_of list) x ≡ i + 1
-  unfolding place list_of
-  place_found i b h t =
-      first_passes (eqb x) (take list.len list.at) 0 i (omega (arith, list_length list.at list.len n size en)) (passed i (omega arith) h) (ap (eqb x) (list_at list.at list.len n size en i b) ∙ t) ∙ sym (add-one i)
+pub place_of : (list : Links) (x n : ℕ) → length list.at ≡ 64 → n ≡ min list.len 64 → (r : Option ℕ) → MatchOption r (AllWithin (λ y. y ≡ x → ⊥) (take n list.at) 0 (length (take n list.at))) (λ i. (i < length (take n list.at)) × HoldsAt (λ y. y ≡ x) (take n list.at) i × AllWithin (λ y. y ≡ x → ⊥) (take n list.at) 0 i) → MatchOption r (place (list_of list) x ≡ 0) (λ i. place (list_of list) x ≡ i + 1)
+unfolding list_of
+place_of list x n size en r h = rw (in_list list.at list.len n size en) at (place_first (take n list.at) x r h)

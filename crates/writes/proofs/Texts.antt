@@ -1,11 +1,12 @@
--- Texts in lent bytes, one after the other: a number of four bytes, and numbers in a row.
+-- Texts in lent bytes, one after the other: a number of four bytes or of eight, and numbers in a row.
 use Prim.Native.Nat.{ℕ, suc, ◌+◌, ◌*◌, ◌/◌, ◌%◌, ◌≤◌, ◌<◌}
 use native.Mathlib.Numerals.{add-one}
 use native.Mathlib.Omega.{arith}
 use mathlib.Core.Path.{◌≡◌, refl, ap, sym, ◌∙◌}
-use mathlib.Core.List.{List, [], ◌∷◌, ◌++◌}
-use lib.ListN.{length, get_or, set, drop, length-set, drop_of_length-le}
-use lib.Seq.{sets, sets-eq, drop-cons}
+use mathlib.Core.List.{List, [], ◌∷◌, ◌++◌, append_assoc}
+use lib.ListN.{length, get_or, set, take, drop, length-set, drop_of_length-le}
+use lib.Seq.{sets, sets-eq, drop-cons, drop-drop}
+use borrow.Rule.Slice.PartMut.{put_mid}
 use Rattle.rules.specs.Script.{Text}
 use Rattle.file.specs.File.{cell_text, wrote}
 use Rattle.file.proofs.Cells.{cell-length}
@@ -32,6 +33,11 @@ pub put_on : (whole out out' : Text) (at at' : ℕ) (t u : Text) → whole ≡ p
     → whole ≡ put_text out' at' u
 put_on whole out out' at at' t u e f g = e ∙ put-append out at t u ∙ ap (λ (o : Text). put_text o (at + length t) u) (sym f) ∙ ap (λ (k : ℕ). put_text out' k u) (sym g)
 
+pub put_then : (out out' out'' : Text) (at at' : ℕ) (t u : Text) → out' ≡ put_text out at t → at' ≡ at + length t → out'' ≡ put_text out' at' u
+    → out'' ≡ put_text out at (t ++ u)
+put_then out out' out'' at at' t u e g f =
+    f ∙ ap (λ (k : ℕ). put_text out' k u) g ∙ ap (λ (o : Text). put_text o (at + length t) u) e ∙ sym (put-append out at t u)
+
 -- over the first bytes
 put-sets : (out : Text) (at : ℕ) (t : Text) → put_text out at t ≡ sets out at t
 unfolding put_text
@@ -45,17 +51,42 @@ put_whole out t h =
     let none : 0 + length t ≡ length t = omega arith in
     put-sets out 0 t ∙ sets-eq t out 0 fits ∙ ap (λ (k : ℕ). t ++ drop k out) none
 
--- ---- numbers of four bytes
+-- a part of the bytes, written over
+pub put_part : (out t part : Text) (at k : ℕ) → at + length t ≤ length out → k ≡ length t → part ≡ t → put_mid at k out part ≡ put_text out at t
+put_part out t part at k h e g =
+    rw (e, g)
+    (ap (λ (r : Text). take at out ++ (t ++ r)) (drop-drop (length t) at out)
+    ∙ sym (put-sets out at t ∙ sets-eq t out at h ∙ append_assoc (take at out) t (drop (at + length t) out)))
 
-pub word-is : (out : Text) (at n : ℕ)
-    → set (set (set (set out at (n % 256)) (at + 1) (n / 256 % 256)) (at + 2) (n / 256 / 256 % 256)) (at + 3) (n / 256 / 256 / 256 % 256)
-    ≡ put_text out at (cell_text 4 n)
-unfolding put_text cell_text
-word-is out at n =
-    let one : at + 1 ≡ suc at = omega arith in
-    let two : at + 2 ≡ suc (suc at) = omega arith in
-    let three : at + 3 ≡ suc (suc (suc at)) = omega arith in
-    rw (one, two, three)
+-- ---- numbers, low byte first
+
+pub four-bytes : (n : ℕ) → n % 256 ∷ n / 256 % 256 ∷ n / 65536 % 256 ∷ n / 16777216 % 256 ∷ [] ≡ cell_text 4 n
+unfolding cell_text
+four-bytes n =
+    let third : n / 65536 ≡ n / 256 / 256 = omega arith in
+    let fourth : n / 16777216 ≡ n / 256 / 256 / 256 = omega arith in
+    rw (third, fourth)
+
+pub eight-bytes : (n : ℕ)
+    → n % 256
+    ∷ n / 256 % 256
+    ∷ n / 65536 % 256
+    ∷ n / 16777216 % 256
+    ∷ n / 4294967296 % 256
+    ∷ n / 1099511627776 % 256
+    ∷ n / 281474976710656 % 256
+    ∷ n / 72057594037927936 % 256
+    ∷ []
+    ≡ cell_text 8 n
+unfolding cell_text
+eight-bytes n =
+    let second : n / 65536 ≡ n / 256 / 256 = omega arith in
+    let third : n / 16777216 ≡ n / 256 / 256 / 256 = omega arith in
+    let fourth : n / 4294967296 ≡ n / 256 / 256 / 256 / 256 = omega arith in
+    let fifth : n / 1099511627776 ≡ n / 256 / 256 / 256 / 256 / 256 = omega arith in
+    let sixth : n / 281474976710656 ≡ n / 256 / 256 / 256 / 256 / 256 / 256 = omega arith in
+    let seventh : n / 72057594037927936 ≡ n / 256 / 256 / 256 / 256 / 256 / 256 / 256 = omega arith in
+    rw (second, third, fourth, fifth, sixth, seventh)
 
 pub words-next : (whole out out' : Text) (at i : ℕ) (words : List ℕ) → i < length words
     → whole ≡ put_text out (at + 4 * i) (words_text (drop i words))

@@ -3,36 +3,29 @@
 use Prim.Native.Nat.{ℕ, ◌+◌, ◌*◌, ◌≤◌, ◌<◌}
 use native.Mathlib.Omega.{arith}
 use mathlib.Core.Path.{◌≡◌, refl, ap, sym, subst, ◌∙◌}
-use mathlib.Core.Bool.{true, false}
+use mathlib.Core.Bool.{Bool, true, false, not}
 use mathlib.Core.List.{List, [], ◌∷◌, ◌++◌, map, append_assoc, append-nil}
 use lib.ListN.{length, get_or, drop, length-append, length-map}
 use lib.Seq.{get_or-drop}
 use lib.Dec.{T, eqb, leb, leb→le, eqb→eq}
-use lib.Ieee.{Float}
 use lib.Ieee.Fits.{and_l, and_r}
-use borrow.Author.Tests.{lt-ltb, le-ltb, not-false}
+use borrow.Author.Tests.{lt-ltb, le-ltb}
 use Rattle.rules.specs.Table.{Table}
-use Rattle.rules.specs.Mesh.{Mesh, mesh}
+use Rattle.rules.specs.Mesh.{Mesh}
 use Rattle.rules.specs.Records.{vertex_record, arc_record, edge_record, face_record, records}
 use Rattle.rules.specs.Sound.{within_limits, sound}
 use Rattle.rules.specs.Script.{Text}
 use Rattle.file.specs.File.{cell_text, row_text, total, body_text, body_length, schema, counter_widths, places, bodies_text, head_length, file_text, vertex_cells, arc_cells, edge_cells, face_cells, contents_of, file_of, wrote, check_refuses, write_file}
 use Rattle.file.proofs.Cells.{cell-length, body-length}
 use Rattle.file.proofs.Calls.{check-refuses}
-use Rattle.orders.specs.declared.Kind.{Kind}
-use Rattle.orders.specs.declared.Kind.TheVariants.{Vertices, Arcs, Edges, Faces}
-use Rattle.orders.specs.Order.{tables, table_of, before_of, used_links, links_of}
+use Rattle.orders.specs.declared.kinds.Kind.{Kind}
+use Rattle.orders.specs.declared.kinds.Kind.TheVariants.{Vertices, Arcs, Edges, Faces}
+use Rattle.orders.specs.Order.{table_of, before_of, used_links, links_of}
 use Rattle.writes.specs.declared.Counts.{Counts}
-use Rattle.writes.specs.Writing.{put_text, words_text, widths_of, cells_of, links_text, kind_text, bodies_of, counts_of, head_text, length_of, Small, when_sound}
-use Rattle.writes.proofs.Texts.{put-append, put_whole}
-use Rattle.writes.proofs.Linked.{links-same, kind-same}
+use Rattle.writes.specs.Writing.{put_text, words_text, widths_of, cells_of, links_text, kind_text, bodies_of, counts_of, head_text, length_of, Small}
+use Rattle.writes.proofs.Texts.{put_then, put_whole}
 
 -- ---- one text after the other
-
-pub put_then : (out out' out'' : Text) (at at' : ℕ) (t u : Text) → out' ≡ put_text out at t → at' ≡ at + length t → out'' ≡ put_text out' at' u
-    → out'' ≡ put_text out at (t ++ u)
-put_then out out' out'' at at' t u e g f =
-    f ∙ ap (λ (k : ℕ). put_text out' k u) g ∙ ap (λ (o : Text). put_text o (at + length t) u) e ∙ sym (put-append out at t u)
 
 words_append : (xs ys : List ℕ) → words_text (xs ++ ys) ≡ words_text xs ++ words_text ys
 unfolding words_text
@@ -183,31 +176,14 @@ file-long m =
     ∙ length-append (head_text (counts_of m) m.counters) (bodies_of m)
     ∙ omega (arith, head-long (counts_of m) m.counters, bodies-long m)
 
--- ---- told by the tables alone
-
-module _ (v : Table) (p : List (List Float)) (a e f : Table) (k : List ℕ) where
-  pub counts_same : counts_of (tables v a e f) ≡ counts_of (mesh v p a e f k)
-  unfolding counts_of
-  counts_same = rw (links-same v p a e f k Vertices, links-same v p a e f k Arcs, links-same v p a e f k Edges, links-same v p a e f k Faces)
-
-  one_same : (kind : Kind) → kind_text (mesh v p a e f []) kind ≡ kind_text (mesh v p a e f k) kind
-  one_same kind = sym (kind-same v p a e f [] kind) ∙ kind-same v p a e f k kind
-
-  pub bodies-same : bodies_of (mesh v p a e f []) ≡ bodies_of (mesh v p a e f k)
-  unfolding bodies_of
-  bodies-same = rw (one_same Vertices, one_same Arcs, one_same Edges, one_same Faces)
-
 -- ---- what the check lets pass is small
 
-module _ (m : Mesh) (h : check_refuses m ≡ false) where
-  is-sound : T (sound m)
-  is-sound = subst T (sym (not-false (sound m) (sym (check-refuses m) ∙ h))) tt
-
+module _ (m : Mesh) (h : sound m ≡ true) where
   limited : T (within_limits m)
   unfolding sound
-  limited = and_l (within_limits m) _ is-sound
+  limited = and_l (within_limits m) _ (subst T (sym h) tt)
 
-  pub small : Small (tables m.vertices m.arcs m.edges m.faces)
+  pub small : Small m
   unfolding within_limits table_of
   small = record { rows = rows }
     where
@@ -226,7 +202,7 @@ module _ (m : Mesh) (h : check_refuses m ≡ false) where
             ),
           )
 
-      rows : (kind : Kind) → length (table_of (tables m.vertices m.arcs m.edges m.faces) kind) ≤ 16384
+      rows : (kind : Kind) → length (table_of m kind) ≤ 16384
       rows Vertices = omega (arith, parts.0)
       rows Arcs = omega (arith, parts.1.0, parts.1.1.0)
       rows Edges = omega (arith, parts.1.0)
@@ -245,51 +221,42 @@ pub sizes : (m : Mesh)
 unfolding length_of counts_of body_length widths_of total
 sizes m = refl
 
-pub length-least : (c : Counts) → 44 ≤ length_of c
-unfolding length_of
-length-least c = omega arith
-
-module _ (v : Table) (p : List (List Float)) (a e f : Table) where
-  space : (kind : Kind) → body_length (widths_of kind) (length (links_of (tables v a e f) kind)) ≡ length (kind_text (mesh v p a e f []) kind)
-  space kind =
-      ap (λ (l : List ℕ). body_length (widths_of kind) (length l)) (links-same v p a e f [] kind) ∙ sym (kind-long (mesh v p a e f []) kind)
-
-  next : (kind : Kind) (at r : ℕ) → r ≡ at + body_length (widths_of kind) (length (links_of (tables v a e f) kind)) → r ≡ at + length (kind_text (mesh v p a e f []) kind)
-  next kind at r g = g ∙ ap (λ (n : ℕ). at + n) (space kind)
+module _ (m : Mesh) where
+  next : (kind : Kind) (at r : ℕ) → r ≡ at + body_length (widths_of kind) (length (links_of m kind)) → r ≡ at + length (kind_text m kind)
+  next kind at r g = g ∙ ap (λ (n : ℕ). at + n) (sym (kind-long m kind))
 
   pub four-bodies : (out one two three four : Text) (r s t : ℕ)
-      → one ≡ put_text out 44 (kind_text (mesh v p a e f []) Vertices) → r ≡ 44 + body_length (widths_of Vertices) (length (links_of (tables v a e f) Vertices))
-      → two ≡ put_text one r (kind_text (mesh v p a e f []) Arcs) → s ≡ r + body_length (widths_of Arcs) (length (links_of (tables v a e f) Arcs))
-      → three ≡ put_text two s (kind_text (mesh v p a e f []) Edges) → t ≡ s + body_length (widths_of Edges) (length (links_of (tables v a e f) Edges))
-      → four ≡ put_text three t (kind_text (mesh v p a e f []) Faces)
-      → four ≡ put_text out 44 (bodies_of (mesh v p a e f []))
+      → one ≡ put_text out 44 (kind_text m Vertices) → r ≡ 44 + body_length (widths_of Vertices) (length (links_of m Vertices))
+      → two ≡ put_text one r (kind_text m Arcs) → s ≡ r + body_length (widths_of Arcs) (length (links_of m Arcs))
+      → three ≡ put_text two s (kind_text m Edges) → t ≡ s + body_length (widths_of Edges) (length (links_of m Edges))
+      → four ≡ put_text three t (kind_text m Faces)
+      → four ≡ put_text out 44 (bodies_of m)
   unfolding bodies_of
   four-bodies out one two three four r s t e1 g1 e2 g2 e3 g3 e4 =
-      let m : Mesh = mesh v p a e f [] in
       let last = put_then two three four s t (kind_text m Edges) (kind_text m Faces) e3 (next Edges s t g3) e4 in
       let rest = put_then one two four r s (kind_text m Arcs) (kind_text m Edges ++ kind_text m Faces) e2 (next Arcs r s g2) last in
       put_then out one four 44 r (kind_text m Vertices) (kind_text m Arcs ++ (kind_text m Edges ++ kind_text m Faces)) e1 (next Vertices 44 r g1) rest
 
 module _ (m : Mesh) (out : Text) where
-  pub too_few : length out < length (file_of m) → record { number = 7; count = 0; bytes = out } ≡ when_sound m out
-  unfolding when_sound
-  too_few h = rw (lt-ltb (length out) (length (file_of m)) h)
+  refusing : (b : Bool) → sound m ≡ b → check_refuses m ≡ not b
+  refusing b e = check-refuses m ∙ ap not e
 
-  pub all-written : (n : ℕ) (one two : Text) → n ≡ length (file_of m) → n ≤ length out
+  pub refused : sound m ≡ false → record { number = 1; count = 0; bytes = out } ≡ write_file m out
+  unfolding write_file
+  refused e = rw (refusing false e)
+
+  pub too_few : sound m ≡ true → length out < length_of (counts_of m) → record { number = 7; count = 0; bytes = out } ≡ write_file m out
+  unfolding write_file
+  too_few e h = rw (refusing true e, lt-ltb (length out) (length (file_of m)) (rw (file-long m) h))
+
+  pub all-written : (n : ℕ) (one two : Text) → sound m ≡ true → n ≡ length_of (counts_of m) → n ≤ length out
       → one ≡ put_text out 0 (head_text (counts_of m) m.counters) → two ≡ put_text one 44 (bodies_of m)
-      → record { number = 0; count = n; bytes = two } ≡ when_sound m out
-  unfolding when_sound
-  all-written n one two en h e1 e2 =
+      → record { number = 0; count = n; bytes = two } ≡ write_file m out
+  unfolding write_file
+  all-written n one two e en h e1 e2 =
+      let long : n ≡ length (file_of m) = en ∙ sym (file-long m) in
       let fits : length (file_of m) ≤ length out = omega arith in
       let here : 44 ≡ 0 + length (head_text (counts_of m) m.counters) = omega (arith, head-long (counts_of m) m.counters) in
       let text : two ≡ wrote out (file_of m) =
       put_then out one two 0 44 (head_text (counts_of m) m.counters) (bodies_of m) e1 here e2 ∙ ap (put_text out 0) (sym (file-is m)) ∙ put_whole out (file_of m) fits in
-      rw (le-ltb (length out) (length (file_of m)) fits, en, text)
-
-  pub refused : check_refuses m ≡ true → record { number = 1; count = 0; bytes = out } ≡ write_file m out
-  unfolding write_file
-  refused e = rw e
-
-  pub passed : check_refuses m ≡ false → when_sound m out ≡ write_file m out
-  unfolding write_file when_sound
-  passed e = rw e
+      rw (refusing true e, le-ltb (length out) (length (file_of m)) fits, long, text)

@@ -1,18 +1,18 @@
 -- The file's bytes as the writer puts them: a text from a place on, numbers of four bytes, a record, and the records of a kind.
 use Prim.Native.Nat.{ℕ, suc, ◌+◌, ◌*◌, ◌≤◌}
-use mathlib.Core.Bool.{cond}
 use mathlib.Core.List.{List, [], ◌∷◌, ◌++◌, map}
 use lib.ListN.{length, get_or, set}
-use lib.Dec.{ltb}
+use Rattle.std.specs.Prelude.{Result, Ok, Err}
+use Rattle.rules.specs.declared.Refusal.{Refusal}
 use Rattle.rules.specs.Mesh.{Mesh}
+use Rattle.rules.specs.Step.{number_of}
 use Rattle.rules.specs.Records.{vertex_record, arc_record, edge_record, face_record}
 use Rattle.rules.specs.Script.{Text}
-use Rattle.file.specs.File.{FileWritten, file_of, wrote, cell_text, row_text, body_text, vertex_cells, arc_cells, edge_cells, face_cells}
-use Rattle.orders.specs.declared.Kind.{Kind}
-use Rattle.orders.specs.declared.Kind.TheVariants.{Vertices, Arcs, Edges, Faces}
+use Rattle.file.specs.File.{FileWritten, cell_text, row_text, body_text, vertex_cells, arc_cells, edge_cells, face_cells}
+use Rattle.orders.specs.declared.kinds.Kind.{Kind}
+use Rattle.orders.specs.declared.kinds.Kind.TheVariants.{Vertices, Arcs, Edges, Faces}
 use Rattle.orders.specs.Order.{table_of, links_of}
 use Rattle.writes.specs.declared.Counts.{Counts}
-use Rattle.writes.specs.declared.Wrote.{Wrote}
 
 -- ---- bytes
 
@@ -99,11 +99,7 @@ pub record Few (c : Counts) : Type 0 where
 pub record Small (m : Mesh) : Type 0 where
   pub rows : (kind : Kind) → length (table_of m kind) ≤ 16384
 
--- behind the check: "then 7 if the lent bytes are too few", else the length
-unfoldable pub when_sound : Mesh → Text → FileWritten
-when_sound m out =
-    cond (ltb (length out) (length (file_of m))) (record { number = 7; count = 0; bytes = out })
-    (record { number = 0; count = length (file_of m); bytes = wrote out (file_of m) })
-
-abbrev pub file_written : Wrote → Text → FileWritten
-file_written r bytes = record { number = r.number; count = r.count; bytes = bytes }
+-- what the call gives back, as document 02's numbers: 0 and the length, or a refusal's number and none
+abbrev pub file_written : Result ℕ Refusal → Text → FileWritten
+file_written (Ok n) bytes = record { number = 0; count = n; bytes = bytes }
+file_written (Err r) bytes = record { number = number_of r; count = 0; bytes = bytes }

@@ -1,4 +1,4 @@
-// Numbers of four bytes in lent bytes, "each u32 little-endian", by remainders and divisions. Other bytes stay.
+// Numbers in lent bytes, low byte first. Other bytes stay.
 
 ghost use mathlib.Core.Path.{◌≡◌};
 ghost use Prim.Native.Nat.{◌+◌, ◌*◌, ◌≤◌};
@@ -6,29 +6,36 @@ ghost use lib.ListN.{length};
 ghost use Rattle.file.specs.File.{cell_text};
 ghost use Rattle.writes.specs.Writing.{put_text, words_text};
 
-// One number.
-fn put_word(out: &mut [u8], at: usize, n: u32)
+// Bytes from a place on.
+fn put_bytes(out: &mut [u8], at: usize, bytes: &[u8])
+    requires { at + length bytes.now ≤ length out.old }
+    ensures { out.new ≡ put_text out.old at bytes.now }
+{
+    out[at..at + bytes.len()].copy_from_slice(bytes);
+}
+
+// A number of four bytes, "each u32 little-endian".
+pub fn put_word(out: &mut [u8], at: usize, n: u32)
     requires { at + 4 ≤ length out.old }
     ensures { out.new ≡ put_text out.old at (cell_text 4 n) }
 {
-    let second = n / 256;
-    let third = second / 256;
-    let fourth = third / 256;
-    out[at] = (n % 256) as u8;
-    out[at + 1] = (second % 256) as u8;
-    out[at + 2] = (third % 256) as u8;
-    out[at + 3] = (fourth % 256) as u8;
+    put_bytes(out, at, &n.to_le_bytes());
 }
 
-// Numbers one after the other.
+// And of eight.
+pub fn put_long(out: &mut [u8], at: usize, bits: u64)
+    requires { at + 8 ≤ length out.old }
+    ensures { out.new ≡ put_text out.old at (cell_text 8 bits) }
+{
+    put_bytes(out, at, &bits.to_le_bytes());
+}
+
+// Numbers of four bytes, one after the other.
 pub fn put_words(out: &mut [u8], at: usize, words: &[u32])
     requires { at + 4 * length words.now ≤ length out.old }
     ensures { out.new ≡ put_text out.old at (words_text words.now) }
 {
-    let n = words.len();
-    let mut i: usize = 0;
-    while i < n {
-        put_word(out, at + 4 * i, words[i]);
-        i += 1;
+    for (i, n) in words.iter().enumerate() {
+        put_word(out, at + 4 * i, *n);
     }
 }

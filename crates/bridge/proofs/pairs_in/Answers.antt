@@ -1,82 +1,53 @@
+-- Each pair on what the one before left, until one is refused: laws of Steps.
+use Prim.Native.Nat.{ℕ}
 use native.Mathlib.Omega.{arith}
-use mathlib.Core.Path.{◌≡◌, refl, sym, ◌∙◌}
-use mathlib.Core.List.{reverse}
+use mathlib.Core.Path.{◌≡◌, sym, ◌∙◌}
+use mathlib.Core.List.{List, reverse}
 use lib.ListN.{length, get_or}
-use Rattle.rules.specs.Mesh.{Mesh, mesh, list_of}
+use Rattle.rules.specs.Mesh.{Mesh, list_of}
+use Rattle.rules.specs.Lent.{mesh_of}
+use Rattle.rules.specs.Step.{Step}
+use Rattle.rules.proofs.Lent.{same-itself, same-then}
+use Rattle.makers.specs.Makers.{searching, arc_bridge_by}
 use Rattle.insert.proofs.Filled.{filled-bridge}
 use Rattle.edits.proofs.Known.{known-each}
-use Rattle.edits.proofs.Steps.{each_none, each_goes, each-stops}
-use Rattle.makers.specs.Makers.{searching, arc_bridge_by}
+use Rattle.edits.proofs.Steps.{a-key, refused, each_none, each_goes, each-stops}
 use borrow.Author.Rules.{rules}
 use Rattle.bridge.proofs.pairs_in.Goals as goal
+
+-- what pair i makes
+abbrev pair : List ℕ → List ℕ → ℕ → Mesh → Step
+pair forth back i m = arc_bridge_by searching m (get_or forth i 0) (get_or (reverse back) i 0)
 
 pub loop-i-init : goal.loop-i-init
 loop-i-init c =
     let a = c.args in
-    (search rules, (record { ofv = refl; ofa = refl; ofe = refl; off = refl }, each_none (λ i n. arc_bridge_by searching n (get_or (list_of a.forth) i 0) (get_or (reverse (list_of a.back)) i 0)) (mesh a.vertices.now a.positions.now a.arcs.now a.edges.now a.faces.now a.counters.now)))
+    (same-itself _, each_none (pair (list_of a.forth) (list_of a.back)) (mesh_of a.mesh.now))
 
-pub arc_bridge-told-requires : goal.arc_bridge-told-requires
-arc_bridge-told-requires c =
+pub arc_bridge-requires : goal.arc_bridge-requires
+arc_bridge-requires c =
     let a = c.args in
     let l = c.loop-i in
-    let m₀ : Mesh = mesh a.vertices.now a.positions.now a.arcs.now a.edges.now a.faces.now a.counters.now in
-    let m : Mesh = mesh l.vertices a.positions.now l.arcs l.edges l.faces l.counters in
-    known-each (λ i n. arc_bridge_by searching n (get_or (list_of a.forth) i 0) (get_or (reverse (list_of a.back)) i 0)) (λ i n. filled-bridge n (get_or (list_of a.forth) i 0) (get_or (reverse (list_of a.back)) i 0)) m₀ l.i m a.seen.now a.near.now a.around l.invariant.1.1 c.requires
+    known-each (pair (list_of a.forth) (list_of a.back)) (λ i m. filled-bridge m _ _) (mesh_of a.mesh.now) l.i (mesh_of l.mesh) a.around.now l.invariant.1 c.requires
 
-pub shape_of-vertices-then-not-accepted : goal.shape_of-vertices-then-not-accepted
-shape_of-vertices-then-not-accepted c = c.arc_bridge-told.auto.vertices ∙ c.loop-i.invariant.1.0.ofv
-
-pub shape_of-arcs-then-not-accepted : goal.shape_of-arcs-then-not-accepted
-shape_of-arcs-then-not-accepted c = c.arc_bridge-told.auto.arcs ∙ c.loop-i.invariant.1.0.ofa
-
-pub shape_of-edges-then-not-accepted : goal.shape_of-edges-then-not-accepted
-shape_of-edges-then-not-accepted c = c.arc_bridge-told.auto.edges ∙ c.loop-i.invariant.1.0.ofe
-
-pub shape_of-faces-then-not-accepted : goal.shape_of-faces-then-not-accepted
-shape_of-faces-then-not-accepted c = c.arc_bridge-told.auto.faces ∙ c.loop-i.invariant.1.0.off
-
-pub returns-then-not-accepted : goal.returns-then-not-accepted
-returns-then-not-accepted c =
+pub returns-in_err-arc_bridge : goal.returns-in_err-arc_bridge
+returns-in_err-arc_bridge c =
     let a = c.args in
     let l = c.loop-i in
-    let g = c.arc_bridge-told in
-    let m₀ : Mesh = mesh a.vertices.now a.positions.now a.arcs.now a.edges.now a.faces.now a.counters.now in
-    let m : Mesh = mesh l.vertices a.positions.now l.arcs l.edges l.faces l.counters in
-    let m' : Mesh = mesh g.new.vertices a.positions.now g.new.arcs g.new.edges g.new.faces g.new.counters in
-    each-stops (λ i n. arc_bridge_by searching n (get_or (list_of a.forth) i 0) (get_or (reverse (list_of a.back)) i 0)) l.i (length (list_of a.forth)) m₀ m m' g.result (omega (arith, c.size-n.ensures, c.loop-i-test.true)) l.invariant.1.1
-    (g.ensures ∙ (λ j. arc_bridge_by searching m (c.item-x.ensures j) (c.item_from_end-y.ensures j))) (sym c.accepted.ensures ∙ c.if-not-accepted.true)
+    let g = c.in_err-arc_bridge.ensures in
+    let told = g.told ∙ (λ j. arc_bridge_by searching (mesh_of l.mesh) (c.item-x.ensures j) (c.item_from_end-y.ensures j)) in
+    let stops = each-stops (pair (list_of a.forth) (list_of a.back)) l.i (length (list_of a.forth)) (mesh_of a.mesh.now) (mesh_of l.mesh) (mesh_of c.arc_bridge.new.mesh) _ (omega (arith, c.size-i-end.ensures)) l.invariant.1 told (refused _) in
+    record { pairs = search rules; same = same-then l.invariant.0 g.same }
 
 pub loop-i-preserved : goal.loop-i-preserved
 loop-i-preserved c =
     let a = c.args in
     let l = c.loop-i in
-    let g = c.arc_bridge-told in
-    let k = l.invariant.1.0 in (
-      omega (arith, c.loop-i-test.true),
-      (
-        record { ofv = g.auto.vertices ∙ k.ofv; ofa = g.auto.arcs ∙ k.ofa; ofe = g.auto.edges ∙ k.ofe; off = g.auto.faces ∙ k.off },
-        let m₀ : Mesh = mesh a.vertices.now a.positions.now a.arcs.now a.edges.now a.faces.now a.counters.now in
-            let m : Mesh = mesh l.vertices a.positions.now l.arcs l.edges l.faces l.counters in
-            let m' : Mesh = mesh g.new.vertices a.positions.now g.new.arcs g.new.edges g.new.faces g.new.counters in
-            each_goes (λ i n. arc_bridge_by searching n (get_or (list_of a.forth) i 0) (get_or (reverse (list_of a.back)) i 0)) l.i m₀ m m' g.result l.invariant.1.1
-            (g.ensures ∙ (λ j. arc_bridge_by searching m (c.item-x.ensures j) (c.item_from_end-y.ensures j))) (sym c.accepted.ensures ∙ c.if-not-accepted.false),
-      ),
-    )
-
-pub shape_of-vertices : goal.shape_of-vertices
-shape_of-vertices c = c.loop-i.invariant.1.0.ofv
-
-pub shape_of-arcs : goal.shape_of-arcs
-shape_of-arcs c = c.loop-i.invariant.1.0.ofa
-
-pub shape_of-edges : goal.shape_of-edges
-shape_of-edges c = c.loop-i.invariant.1.0.ofe
-
-pub shape_of-faces : goal.shape_of-faces
-shape_of-faces c = c.loop-i.invariant.1.0.off
+    let g = c.in_ok-arc_bridge.ensures in
+    let told = g.told ∙ (λ j. arc_bridge_by searching (mesh_of l.mesh) (c.item-x.ensures j) (c.item_from_end-y.ensures j)) in
+    (same-then l.invariant.0 g.same, each_goes (pair (list_of a.forth) (list_of a.back)) l.i (mesh_of a.mesh.now) (mesh_of l.mesh) (mesh_of c.arc_bridge.new.mesh) _ l.invariant.1 told (a-key _))
 
 pub returns : goal.returns
 returns c =
-    let a = c.args in
-    let all : c.loop-i.i ≡ (length (list_of a.forth)) = omega (arith, c.size-n.ensures) in
-    sym (rw all at c.loop-i.invariant.1.1)
+    let all : c.loop-i.i ≡ length (list_of c.args.forth) = omega (arith, c.size-i-end.ensures) in
+    record { pairs = sym (rw all at c.loop-i.invariant.1); same = c.loop-i.invariant.0 }

@@ -1,19 +1,16 @@
-use Prim.Native.Nat.{◌-◌, ◌≤◌}
+-- The pairs passed by are bridged.
 use mathlib.Core.Path.{◌≡◌}
 use mathlib.Core.List.{reverse}
-use lib.ListN.{length, get_or}
-use Rattle.rules.specs.declared.Answer.TheVariants.{Done}
-use Rattle.rules.specs.Mesh.{mesh, list_of}
+use lib.ListN.{get_or}
+use Rattle.rules.specs.Answer.{Done}
+use Rattle.rules.specs.Mesh.{list_of}
+use Rattle.rules.specs.Lent.{mesh_of, SameMesh}
 use Rattle.rules.specs.Step.{step}
 use Rattle.edits.specs.Each.{each_in}
-use Rattle.edits.proofs.Inserts.{SameSizes}
 use Rattle.makers.specs.Makers.{searching, arc_bridge_by}
 use Rattle.bridge.proofs.pairs_in.Given as goal
 
 abbrev pub invariant-loop-i : goal.invariant-loop-i
 invariant-loop-i l =
-    (l.i ≤ l.n) × (SameSizes (length l.vertices) (length l.arcs) (length l.edges) (length l.faces) (length l.initial.vertices) (length l.initial.arcs) (length l.initial.edges) (length l.initial.faces)
-    × (each_in (λ i a. arc_bridge_by searching a (get_or (list_of l.forth) i 0) (get_or (reverse (list_of l.back)) i 0)) l.i (mesh l.initial.vertices l.positions l.initial.arcs l.initial.edges l.initial.faces l.initial.counters) ≡ step (mesh l.vertices l.positions l.arcs l.edges l.faces l.counters) Done))
-
-abbrev pub decreases-loop-i : goal.decreases-loop-i
-decreases-loop-i l = l.n - l.i
+    SameMesh l.initial.mesh l.mesh
+    × (each_in (λ i a. arc_bridge_by searching a (get_or (list_of l.forth) i 0) (get_or (reverse (list_of l.back)) i 0)) l.i (mesh_of l.initial.mesh) ≡ step (mesh_of l.mesh) Done)

@@ -1,11 +1,13 @@
-use Prim.Native.Nat.{ℕ}
 use mathlib.Core.Path.{ap, ◌∙◌}
-use Rattle.rules.specs.Mesh.{mesh}
+use Rattle.rules.specs.Mesh.{Mesh, find_key}
+use Rattle.rules.specs.Lent.{mesh_of}
 use Rattle.makers.specs.Makers.{searching, extrude_work_by, work_by}
 use Rattle.choice.proofs.face_extrude.Goals as goal
 
-pub returns : goal.returns
+pub returns-clause-told : goal.returns-clause-told
 unfolding work_by
-returns c =
-    let x = c.args in
-    λ ks. c.extrude_work.ensures ∙ ap (λ (y : ℕ). extrude_work_by searching (mesh x.vertices.now x.positions.now x.arcs.now x.edges.now x.faces.now x.counters.now) y x.by) c.find_key3-f.ensures
+returns-clause-told c =
+    λ ks.
+    let a = c.args in
+    let f = c.find_key-f.ensures ∙ ap (λ (n : Mesh). find_key n.faces a.face) c.view.ensures in
+    c.extrude_work.ensures.told ∙ (λ i. extrude_work_by searching (mesh_of a.mesh.now) (f i) a.by)

@@ -1,6 +1,6 @@
--- The measure is how many lines are left.
-use Rattle.std.proofs.Common.{◌-◌}
+-- It is the same mesh.
+use Rattle.rules.specs.Lent.{SameMesh}
 use Rattle.corners.proofs.ask_all.Given as goal
 
-abbrev pub decreases-loop-at : goal.decreases-loop-at
-decreases-loop-at g l = l.n - l.at
+abbrev pub invariant-loop-at : goal.invariant-loop-at
+invariant-loop-at g l = SameMesh l.initial.mesh l.mesh

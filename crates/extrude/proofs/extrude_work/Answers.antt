@@ -1,31 +1,24 @@
-use mathlib.Core.Path.{◌∙◌}
-use mathlib.Core.List.{List}
-use lib.Ieee.{Float}
-use Rattle.rules.specs.Mesh.{Mesh, mesh}
+-- What the calls ensure, in the order of the law extrude-steps.
+use mathlib.Core.Path.{ap, ◌∙◌}
+use Rattle.rules.specs.Mesh.{Mesh, links_of}
+use Rattle.rules.specs.Lent.{mesh_of}
+use Rattle.rules.specs.Link.{ring_vertices}
+use Rattle.edits.proofs.Steps.{whole-refused, whole-done}
 use Rattle.edits.proofs.Whole.{extrude-steps}
+use borrow.Author.Rules.{rules}
 use Rattle.extrude.proofs.extrude_work.Goals as goal
 
-pub shape_of-vertices : goal.shape_of-vertices
-shape_of-vertices c = c.top_and_walls-told.auto.vertices ∙ c.copies_in-ds.auto.vertices
-
-pub shape_of-positions : goal.shape_of-positions
-shape_of-positions c = c.copies_in-ds.auto.positions
-
-pub shape_of-arcs : goal.shape_of-arcs
-shape_of-arcs c = c.top_and_walls-told.auto.arcs ∙ c.remove_face.auto.arcs
-
-pub shape_of-edges : goal.shape_of-edges
-shape_of-edges c = c.top_and_walls-told.auto.edges
-
-pub shape_of-faces : goal.shape_of-faces
-shape_of-faces c = c.top_and_walls-told.auto.faces ∙ c.remove_face.auto.faces
-
-pub returns : goal.returns
-returns c =
+pub returns-in_err-top_and_walls-clause-told : goal.returns-in_err-top_and_walls-clause-told
+returns-in_err-top_and_walls-clause-told c =
     let a = c.args in
-    let d = c.remove_face in
-    let n = c.copies_in-ds in
-    let t = c.top_and_walls-told in
-    let p : List (List Float) = n.new.positions in
-    let mₑ : Mesh = mesh t.new.vertices p t.new.arcs t.new.edges t.new.faces t.new.counters in
-    extrude-steps (mesh a.vertices.now a.positions.now a.arcs.now a.edges.now a.faces.now a.counters.now) a.f a.by c.vertices_of-vs.result n.result d.new.arcs d.new.faces n.new.vertices n.new.positions n.new.counters mₑ t.result c.answering.result (c.vertices_of-vs.ensures a.vertices.now a.positions.now a.edges.now a.counters.now) (d.ensures a.vertices.now a.positions.now a.edges.now a.counters.now) (n.ensures d.new.arcs a.edges.now d.new.faces) t.ensures (c.answering.ensures mₑ)
+    let v = c.view-view.result in
+    let vs = c.vertices_of-vs.ensures v.vertices.now v.positions.now v.edges.now v.counters.now ∙ ap (λ (m : Mesh). links_of (ring_vertices m a.f)) c.view-view.ensures in
+    let refused = extrude-steps (mesh_of a.mesh.now) (mesh_of c.remove_face.new.mesh) (mesh_of c.copies_in-ds.new.mesh) a.f a.by _ c.copies_in-ds.result (mesh_of c.top_and_walls.new.mesh) _ _ vs c.remove_face.ensures.face c.copies_in-ds.ensures.copies c.in_err-top_and_walls.ensures.faces (whole-refused _ _ _) in
+    search rules
+
+pub returns-clause-told : goal.returns-clause-told
+returns-clause-told c =
+    let a = c.args in
+    let v = c.view-view.result in
+    let vs = c.vertices_of-vs.ensures v.vertices.now v.positions.now v.edges.now v.counters.now ∙ ap (λ (m : Mesh). links_of (ring_vertices m a.f)) c.view-view.ensures in
+    extrude-steps (mesh_of a.mesh.now) (mesh_of c.remove_face.new.mesh) (mesh_of c.copies_in-ds.new.mesh) a.f a.by _ c.copies_in-ds.result (mesh_of c.top_and_walls.new.mesh) _ _ vs c.remove_face.ensures.face c.copies_in-ds.ensures.copies c.in_ok-top_and_walls.ensures.faces (whole-done _ _)

@@ -1,88 +1,59 @@
+-- Each wall on what the one before left, until one is refused: laws of Steps.
+use Prim.Native.Nat.{ℕ}
 use native.Mathlib.Omega.{arith}
-use mathlib.Core.Path.{◌≡◌, refl, sym, ◌∙◌}
+use mathlib.Core.Path.{◌≡◌, sym}
+use mathlib.Core.List.{List}
 use lib.ListN.{length}
-use Rattle.rules.specs.Mesh.{Mesh, mesh, list_of}
-use Rattle.rules.specs.Step.{step}
+use Rattle.rules.specs.Mesh.{Mesh, list_of}
+use Rattle.rules.specs.Lent.{mesh_of}
+use Rattle.rules.specs.Step.{Step}
+use Rattle.rules.specs.Extrude.{wall}
+use Rattle.rules.proofs.Lent.{same-itself, same-then}
+use Rattle.makers.specs.Makers.{searching, insert_face_by}
 use Rattle.insert.proofs.Filled.{filled-insert}
 use Rattle.edits.proofs.Known.{known-each}
-use Rattle.edits.proofs.Steps.{each_none, each_goes, each-stops}
+use Rattle.edits.proofs.Steps.{a-key, refused, each_none, each_goes, each-stops}
 use Rattle.edits.proofs.Inserts.{insert-held}
-use Rattle.makers.specs.Makers.{searching, insert_face_by}
-use Rattle.rules.specs.Extrude.{wall}
 use Rattle.edits.proofs.Whole.{wall-few}
 use borrow.Author.Rules.{rules}
 use Rattle.extrude.proofs.walls_in.Goals as goal
 
+-- what wall i makes
+abbrev wall_in : List ℕ → List ℕ → ℕ → Mesh → Step
+wall_in vs ds i m = insert_face_by searching m (wall vs ds i) 0
+
 pub loop-i-init : goal.loop-i-init
 loop-i-init c =
     let a = c.args in
-    (search rules, (record { ofv = refl; ofa = refl; ofe = refl; off = refl }, each_none (λ i n. insert_face_by searching n (wall (list_of a.vs) (list_of a.ds) i) 0) (mesh a.vertices.now a.positions.now a.arcs.now a.edges.now a.faces.now a.counters.now)))
+    (same-itself _, each_none (wall_in (list_of a.vs) (list_of a.ds)) (mesh_of a.mesh.now))
 
 pub wall_at-requires : goal.wall_at-requires
-wall_at-requires c = omega (arith, c.size-n.ensures)
+wall_at-requires c = omega (arith, c.size-i-end.ensures)
 
-pub insert_face-told-requires : goal.insert_face-told-requires
-insert_face-told-requires c =
+pub insert_face-requires : goal.insert_face-requires
+insert_face-requires c =
     let a = c.args in
     let l = c.loop-i in
-    let m₀ : Mesh = mesh a.vertices.now a.positions.now a.arcs.now a.edges.now a.faces.now a.counters.now in
-    let m : Mesh = mesh l.vertices a.positions.now l.arcs l.edges l.faces l.counters in
-    known-each (λ i n. insert_face_by searching n (wall (list_of a.vs) (list_of a.ds) i) 0) (λ i n. filled-insert n (wall (list_of a.vs) (list_of a.ds) i) 0) m₀ l.i m a.seen.now a.near.now a.around l.invariant.1.1 c.requires
+    known-each (wall_in (list_of a.vs) (list_of a.ds)) (λ i m. filled-insert m _ 0) (mesh_of a.mesh.now) l.i (mesh_of l.mesh) a.around.now l.invariant.1 c.requires
 
-pub shape_of-vertices-then-not-accepted : goal.shape_of-vertices-then-not-accepted
-shape_of-vertices-then-not-accepted c = c.insert_face-told.auto.vertices ∙ c.loop-i.invariant.1.0.ofv
-
-pub shape_of-arcs-then-not-accepted : goal.shape_of-arcs-then-not-accepted
-shape_of-arcs-then-not-accepted c = c.insert_face-told.auto.arcs ∙ c.loop-i.invariant.1.0.ofa
-
-pub shape_of-edges-then-not-accepted : goal.shape_of-edges-then-not-accepted
-shape_of-edges-then-not-accepted c = c.insert_face-told.auto.edges ∙ c.loop-i.invariant.1.0.ofe
-
-pub shape_of-faces-then-not-accepted : goal.shape_of-faces-then-not-accepted
-shape_of-faces-then-not-accepted c = c.insert_face-told.auto.faces ∙ c.loop-i.invariant.1.0.off
-
-pub returns-then-not-accepted : goal.returns-then-not-accepted
-returns-then-not-accepted c =
+pub returns-in_err-insert_face : goal.returns-in_err-insert_face
+returns-in_err-insert_face c =
     let a = c.args in
     let l = c.loop-i in
-    let g = c.insert_face-told in
-    let m₀ : Mesh = mesh a.vertices.now a.positions.now a.arcs.now a.edges.now a.faces.now a.counters.now in
-    let m : Mesh = mesh l.vertices a.positions.now l.arcs l.edges l.faces l.counters in
-    let m' : Mesh = mesh g.new.vertices a.positions.now g.new.arcs g.new.edges g.new.faces g.new.counters in
-    each-stops (λ i n. insert_face_by searching n (wall (list_of a.vs) (list_of a.ds) i) 0) l.i (length (list_of a.vs)) m₀ m m' g.result (omega (arith, c.size-n.ensures, c.loop-i-test.true)) l.invariant.1.1
-    (insert-held m (step m' g.result) c.wall_at.result (wall (list_of a.vs) (list_of a.ds) l.i) 0 (wall-few (list_of a.vs) (list_of a.ds) l.i) c.wall_at.ensures g.ensures) (sym c.accepted.ensures ∙ c.if-not-accepted.true)
+    let g = c.in_err-insert_face.ensures in
+    let told = insert-held (mesh_of l.mesh) _ c.wall_at.result _ 0 (wall-few (list_of a.vs) (list_of a.ds) l.i) c.wall_at.ensures g.told in
+    let stops = each-stops (wall_in (list_of a.vs) (list_of a.ds)) l.i (length (list_of a.vs)) (mesh_of a.mesh.now) (mesh_of l.mesh) (mesh_of c.insert_face.new.mesh) _ (omega (arith, c.size-i-end.ensures)) l.invariant.1 told (refused _) in
+    record { walls = search rules; same = same-then l.invariant.0 g.same }
 
 pub loop-i-preserved : goal.loop-i-preserved
 loop-i-preserved c =
     let a = c.args in
     let l = c.loop-i in
-    let g = c.insert_face-told in
-    let k = l.invariant.1.0 in (
-      omega (arith, c.loop-i-test.true),
-      (
-        record { ofv = g.auto.vertices ∙ k.ofv; ofa = g.auto.arcs ∙ k.ofa; ofe = g.auto.edges ∙ k.ofe; off = g.auto.faces ∙ k.off },
-        let m₀ : Mesh = mesh a.vertices.now a.positions.now a.arcs.now a.edges.now a.faces.now a.counters.now in
-            let m : Mesh = mesh l.vertices a.positions.now l.arcs l.edges l.faces l.counters in
-            let m' : Mesh = mesh g.new.vertices a.positions.now g.new.arcs g.new.edges g.new.faces g.new.counters in
-            each_goes (λ i n. insert_face_by searching n (wall (list_of a.vs) (list_of a.ds) i) 0) l.i m₀ m m' g.result l.invariant.1.1
-            (insert-held m (step m' g.result) c.wall_at.result (wall (list_of a.vs) (list_of a.ds) l.i) 0 (wall-few (list_of a.vs) (list_of a.ds) l.i) c.wall_at.ensures g.ensures) (sym c.accepted.ensures ∙ c.if-not-accepted.false),
-      ),
-    )
-
-pub shape_of-vertices : goal.shape_of-vertices
-shape_of-vertices c = c.loop-i.invariant.1.0.ofv
-
-pub shape_of-arcs : goal.shape_of-arcs
-shape_of-arcs c = c.loop-i.invariant.1.0.ofa
-
-pub shape_of-edges : goal.shape_of-edges
-shape_of-edges c = c.loop-i.invariant.1.0.ofe
-
-pub shape_of-faces : goal.shape_of-faces
-shape_of-faces c = c.loop-i.invariant.1.0.off
+    let g = c.in_ok-insert_face.ensures in
+    let told = insert-held (mesh_of l.mesh) _ c.wall_at.result _ 0 (wall-few (list_of a.vs) (list_of a.ds) l.i) c.wall_at.ensures g.told in
+    (same-then l.invariant.0 g.same, each_goes (wall_in (list_of a.vs) (list_of a.ds)) l.i (mesh_of a.mesh.now) (mesh_of l.mesh) (mesh_of c.insert_face.new.mesh) _ l.invariant.1 told (a-key _))
 
 pub returns : goal.returns
 returns c =
-    let a = c.args in
-    let all : c.loop-i.i ≡ (length (list_of a.vs)) = omega (arith, c.size-n.ensures) in
-    sym (rw all at c.loop-i.invariant.1.1)
+    let all : c.loop-i.i ≡ length (list_of c.args.vs) = omega (arith, c.size-i-end.ensures) in
+    record { walls = sym (rw all at c.loop-i.invariant.1); same = c.loop-i.invariant.0 }

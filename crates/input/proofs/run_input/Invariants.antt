@@ -1,9 +1,6 @@
--- At most 513 bytes are held. The measure is what is left of the turns.
-use Rattle.std.proofs.Common.{◌≤◌}
+-- It is the same mesh, and the same rooms.
+use Rattle.rules.specs.Lent.{SameMesh, SameRoom}
 use Rattle.input.proofs.run_input.Given as goal
 
-abbrev pub invariant-loop-turns : goal.invariant-loop-turns
-invariant-loop-turns g l = l.held ≤ 513
-
-abbrev pub decreases-loop-turns : goal.decreases-loop-turns
-decreases-loop-turns g l = l.turns
+abbrev pub invariant-loop : goal.invariant-loop
+invariant-loop g l = SameMesh l.initial.mesh l.mesh × SameRoom l.initial.room1 l.room1 × SameRoom l.initial.room2 l.room2

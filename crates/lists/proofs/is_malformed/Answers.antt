@@ -9,11 +9,11 @@ use Rattle.lists.proofs.is_malformed.Goals as goal
 
 pub returns-then-size-lt3 : goal.returns-then-size-lt3
 unfolding malformed
-returns-then-size-lt3 c = rw (lt-ltb _ _ (rw c.size.ensures at c.if-size-lt3.true))
+returns-then-size-lt3 c = rw (lt-ltb _ _ (rw c.size.ensures at c.if-size-lt3.true)) (lt-ltb _ _ c.if-size-lt3.true)
 
-pub returns : goal.returns
+pub returns-else-size-lt3 : goal.returns-else-size-lt3
 unfolding malformed
-returns c =
+returns-else-size-lt3 c =
     let a = c.args in
     let n : 3 ≤ length (list_of a.names) = omega (arith, c.size.ensures) in
     rw (le-ltb (length (list_of a.names)) 3 n, c.all_differ.ensures)

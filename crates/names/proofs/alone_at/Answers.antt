@@ -6,6 +6,6 @@ pub returns-then-names-i-eq0 : goal.returns-then-names-i-eq0
 unfolding alone
 returns-then-names-i-eq0 c = rw (eq-eqb _ _ c.if-names-i-eq0.true)
 
-pub returns : goal.returns
+pub returns-else-names-i-eq0 : goal.returns-else-names-i-eq0
 unfolding alone
-returns c = rw (ne_eqb _ _ c.if-names-i-eq0.false, ← c.first_with.ensures)
+returns-else-names-i-eq0 c = rw (ne_eqb _ _ c.if-names-i-eq0.false) c.first_with.ensures

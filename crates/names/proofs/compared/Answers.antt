@@ -1,26 +1,14 @@
-use mathlib.Core.Path.{sym, ◌∙◌}
+use Rattle.std.proofs.Common.{rules}
+use Rattle.std.proofs.lemmas.Iterator.{YieldsList-from_range}
+use Rattle.std.proofs.lemmas.Iterator.Search.{all_from_yields_List}
 use native.Mathlib.Omega.{arith}
-use Rattle.names.proofs.Loops.{none_yet, one_more, all-passed, one-failed}
+use mathlib.Core.Path.{refl, ◌∙◌}
 use Rattle.names.specs.Names.{alone, differ}
-use borrow.Author.Rules.{rules}
+use Rattle.names.proofs.Loops.{list-below}
 use Rattle.names.proofs.compared.Goals as goal
-
-pub loop-i-init : goal.loop-i-init
-loop-i-init c = (search rules, none_yet (alone c.args.names.now))
-
-pub returns-then-not-alone_at : goal.returns-then-not-alone_at
-unfolding differ
-returns-then-not-alone_at c =
-    let a = c.args in
-    one-failed (alone a.names.now) a.n c.loop-i.i (omega arith) (sym c.alone_at.ensures ∙ c.if-not-alone_at.true)
-
-pub loop-i-preserved : goal.loop-i-preserved
-loop-i-preserved c =
-    let a = c.args in
-    (search rules, one_more (alone a.names.now) c.loop-i.i c.loop-i.invariant.1 (sym c.alone_at.ensures ∙ c.if-not-alone_at.false))
 
 pub returns : goal.returns
 unfolding differ
 returns c =
     let a = c.args in
-    all-passed (alone a.names.now) a.n c.loop-i.i (omega arith) (omega arith) c.loop-i.invariant.1
+    all_from_yields_List (alone a.names.now) _ _ _ c.all.ensures.ran (YieldsList-from_range 0 a.n a.n refl (omega arith)) (λ x b q k. search rules) ∙ list-below (alone a.names.now) a.n

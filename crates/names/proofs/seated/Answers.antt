@@ -1,6 +1,5 @@
 -- `names::seated` meets its contract: laws of Seats for a row without a name, and for one that is put. Assumes nothing.
 use mathlib.Core.Path.{sym, ◌∙◌}
-use Rattle.proved.proofs.Rows.{true-T}
 use Rattle.names.proofs.Seats.{none-seated, one-seated}
 use Rattle.names.proofs.seated.Goals as goal
 
@@ -9,11 +8,7 @@ returns-then-passed_by c =
     let a = c.args in
     λ e h. none-seated a.slots.now a.names.now a.part a.i h (sym c.passed_by.ensures ∙ c.if-passed_by.true)
 
-pub returns-then-slot-ge-SLOTS : goal.returns-then-slot-ge-SLOTS
-returns-then-slot-ge-SLOTS c = λ e. absurd (true-T e)
-
 pub returns : goal.returns
 returns c =
     let a = c.args in
-    let s = c.seat-slot in
-    λ e h. one-seated a.slots.now a.names.now a.part a.i h s.result c.requires.0 (s.ensures c.if-slot-ge-SLOTS.false)
+    λ e h. one-seated a.slots.now a.names.now a.part a.i h c.in-Some.slot c.requires c.in-Some.ensures.1

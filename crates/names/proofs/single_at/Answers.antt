@@ -1,19 +1,22 @@
-use borrow.Author.Tests.{eq-eqb, ne_eqb, lt-ltb, le-ltb}
-use Rattle.names.specs.Slots.{single}
+-- `names::single_at` meets its contract: a law of Names for each way out. Assumes nothing.
+use mathlib.Core.Path.{sym}
+use Rattle.names.proofs.Names.{single-none, single-lost, single-itself, single-past, single-other}
+use Rattle.names.proofs.single_at.Goals.{then-row-i-via-then-row-i, then-row-i-via-else-row-i+then-row-n}
 use Rattle.names.proofs.single_at.Goals as goal
 
-pub returns-then-names-i-eq0 : goal.returns-then-names-i-eq0
-unfolding single
-returns-then-names-i-eq0 c = rw (eq-eqb _ _ c.if-names-i-eq0.true)
+pub returns-then-name-eq0 : goal.returns-then-name-eq0
+returns-then-name-eq0 c = single-none _ _ c.args.slots.now c.args.i c.if-name-eq0.true
+
+pub returns-in_default : goal.returns-in_default
+returns-in_default c =
+    single-lost _ _ c.args.slots.now c.args.i c.if-name-eq0.false (sym c.in_default.ensures)
 
 pub returns-then-row-i : goal.returns-then-row-i
-unfolding single
-returns-then-row-i c = rw (ne_eqb _ _ c.if-names-i-eq0.false, ← c.look-row.ensures, eq-eqb _ _ c.if-row-i.true)
-
-pub returns-then-row-n : goal.returns-then-row-n
-unfolding single
-returns-then-row-n c = rw (ne_eqb _ _ c.if-names-i-eq0.false, ← c.look-row.ensures, ne_eqb _ _ c.if-row-i.false, lt-ltb _ _ c.if-row-n.true)
+returns-then-row-i c =
+    let a = c.args in
+    elim c.then-row-i.branch [ then-row-i-via-then-row-i w ↦ single-itself a.names.now a.n a.slots.now a.i c.in-Some.row (sym c.in-Some.ensures) w.if-row-i.true | then-row-i-via-else-row-i+then-row-n w ↦ single-past a.names.now a.n a.slots.now a.i c.in-Some.row (sym c.in-Some.ensures) w.if-row-n.true ]
 
 pub returns : goal.returns
-unfolding single
-returns c = rw (ne_eqb _ _ c.if-names-i-eq0.false, ← c.look-row.ensures, ne_eqb _ _ c.if-row-i.false, le-ltb _ _ c.if-row-n.false, ← c.name_of.ensures)
+returns c =
+    let a = c.args in
+    single-other a.names.now a.n a.slots.now a.i c.in-Some.row (sym c.in-Some.ensures) c.if-name-eq0.false c.if-row-i.false c.if-row-n.false c.requires.0

@@ -1,16 +1,17 @@
--- `names::sorted_out` meets its contract: both parts told apart, or a name that stands twice, or all compared. Assumes nothing.
+-- `names::sorted_out` meets its contract where both parts were told apart. Assumes nothing.
+use denote.Enum.Bare.{same_true}
+use borrow.Author.Rules.{rules}
+use mathlib.Core.Path.{◌≡◌, sym}
+use Rattle.names.specs.contracts.Verdict.{the_type}
+use Rattle.names.specs.declared.Verdict.TheVariants.{Apart}
 use Rattle.names.proofs.Names.{shown, parts-differ}
 use Rattle.names.proofs.sorted_out.Goals as goal
 
-pub returns-then-first-eq-TWICE : goal.returns-then-first-eq-TWICE
-returns-then-first-eq-TWICE c = c.told_of-first.ensures.1 c.if-first-eq-TWICE.true
-
-pub returns-then-second-eq-TWICE : goal.returns-then-second-eq-TWICE
-returns-then-second-eq-TWICE c = c.told_of-second.ensures.1 c.if-second-eq-TWICE.true
-
-pub returns : goal.returns
-returns c =
-    let second = c.told_of-second in
-    let first = c.told_of-first in
+pub returns-then-eq-4 : goal.returns-then-eq-4
+returns-then-eq-4 c =
     let a = c.args in
-    shown a.names.now a.n (parts-differ a.names.now a.n (first.ensures.0 c.if-first-ne-APART.false) (second.ensures.0 c.if-second-ne-APART.false))
+    let p : c.told_of-first.result ≡ Apart = same_true the_type (search rules) _ _ (sym c.if-eq-3.ensures) in
+    let q : c.told_of-second.result ≡ Apart = same_true the_type (search rules) _ _ (sym c.if-eq-4.ensures) in
+    let first = rw p at c.told_of-first.ensures in
+    let second = rw q at c.told_of-second.ensures in
+    shown a.names.now a.n (parts-differ a.names.now a.n first second)

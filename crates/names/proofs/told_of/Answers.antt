@@ -1,6 +1,5 @@
 -- `names::told_of` meets its contract: a part whose names find their rows, and a name that finds another row. Assumes nothing.
 use mathlib.Core.Path.{sym, ◌∙◌}
-use native.Mathlib.Omega.{arith}
 use Rattle.proved.proofs.Rows.{true-T}
 use Rattle.names.proofs.Names.{found-differ, twin-tells}
 use Rattle.names.proofs.told_of.Goals as goal
@@ -8,12 +7,9 @@ use Rattle.names.proofs.told_of.Goals as goal
 pub returns-then-all_seated : goal.returns-then-all_seated
 returns-then-all_seated c =
     let a = c.args in
-    (λ e. found-differ a.names.now a.n _ a.part (true-T (c.all_seated.ensures c.if-all_seated.true)), λ e. let z : ⊥ = omega arith in absurd z)
+    found-differ a.names.now a.n _ a.part (true-T (c.all_seated.ensures c.if-all_seated.true))
 
-pub returns-then-not-no_twin : goal.returns-then-not-no_twin
-returns-then-not-no_twin c =
+pub returns-else-no_twin : goal.returns-else-no_twin
+returns-else-no_twin c =
     let a = c.args in
-    (λ e. let z : ⊥ = omega arith in absurd z, λ e. twin-tells a.names.now a.n _ c.requires (sym c.no_twin.ensures ∙ c.if-not-no_twin.true))
-
-pub returns : goal.returns
-returns c = (λ e. let z : ⊥ = omega arith in absurd z, λ e. let z : ⊥ = omega arith in absurd z)
+    twin-tells a.names.now a.n _ c.requires (sym c.no_twin.ensures ∙ c.if-no_twin.false)

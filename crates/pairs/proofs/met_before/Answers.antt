@@ -22,17 +22,9 @@ all_there : (at : List ℕ) (n : ℕ) → length at ≡ 64 → n ≤ 64 → n �
 unfolding list_of
 all_there at n e l = omega (arith, length-take n at)
 
--- the place after i is one of the n
-next-few : (c : goal.After-place_after) → c.place_after.result < c.args.n
-next-few c =
-    next-on c.args.n c.args.i c.place_after.result c.requires.1 c.place_after.ensures
-
-pub bounds-at-place_after : goal.bounds-at-place_after
-bounds-at-place_after c = omega (arith, next-few c, c.requires.0, c.known_places.ensures)
-
 pub loop-j-init : goal.loop-j-init
 unfolding some_below
-loop-j-init c = (search rules, λ p h. refl)
+loop-j-init c = λ p h. refl
 
 -- each pair before i, by the array
 by-array :
@@ -54,16 +46,16 @@ returns-then-same_two c =
     let a = c.args in
     let per = list_of (first a.at.now a.n) in
     let meet = meets per (get_or per a.i 0) (get_or per (after (length per) a.i) 0) in
-    sym (some-here meet a.i c.loop-j.j (search rules) (by-array a.at.now a.n a.i c.place_after.result c.loop-j.j c.known_places.ensures c.requires.0 c.requires.1 c.place_after.ensures (search rules) ∙ sym c.same_two.ensures ∙ c.if-same_two.true))
+    sym (some-here meet a.i c.loop-j.j (search rules) (by-array a.at.now a.n a.i c.place_after.result c.loop-j.j c.told-at c.requires.0 c.requires.1 c.place_after.ensures (search rules) ∙ sym c.same_two.ensures ∙ c.if-same_two.true))
 
 pub loop-j-preserved : goal.loop-j-preserved
 loop-j-preserved c =
-    (search rules, λ p h. some_more p c.loop-j.j (c.loop-j.invariant.1 p h) (h c.loop-j.j (search rules) ∙ sym c.same_two.ensures ∙ c.if-same_two.false))
+    λ p h. some_more p c.loop-j.j (c.loop-j.invariant p h) (h c.loop-j.j (search rules) ∙ sym c.same_two.ensures ∙ c.if-same_two.false)
 
 pub returns : goal.returns
 unfolding met_before list_of
 returns c =
     let a = c.args in
     let per = list_of (first a.at.now a.n) in
-    let all : c.loop-j.j ≡ a.i = omega arith in
-    sym (rw all at (c.loop-j.invariant.1 (meets per (get_or per a.i 0) (get_or per (after (length per) a.i) 0)) (λ k. by-array a.at.now a.n a.i c.place_after.result k c.known_places.ensures c.requires.0 c.requires.1 c.place_after.ensures)))
+    let all : c.loop-j.j ≡ a.i = omega (arith, c.loop-j.auto.j-end, c.loop-j-test.false) in
+    sym (rw all at (c.loop-j.invariant (meets per (get_or per a.i 0) (get_or per (after (length per) a.i) 0)) (λ k. by-array a.at.now a.n a.i c.place_after.result k c.told-at c.requires.0 c.requires.1 c.place_after.ensures)))

@@ -2,6 +2,7 @@
 use Prim.Native.Nat.{◌+◌}
 use lib.ListN.{replicate}
 use Rattle.rules.specs.Mesh.{list_of}
+use Rattle.lists.proofs.Laws.{list-few}
 use Rattle.pairs.proofs.Pass.{pass-start, pass-run, pass-note, pass-end, pass-large}
 use borrow.Author.Rules.{rules}
 use Rattle.pairs.proofs.perimeter_arcs.Goals as goal
@@ -9,7 +10,7 @@ use Rattle.pairs.proofs.perimeter_arcs.Goals as goal
 pub returns-then-arcs-gt-ROW_LIMIT : goal.returns-then-arcs-gt-ROW_LIMIT
 returns-then-arcs-gt-ROW_LIMIT c =
     let a = c.args in
-    pass-large a.arcs.now (list_of a.per) c.size-n.result c.size-n.ensures c.known_few.ensures c.if-arcs-gt-ROW_LIMIT.true
+    pass-large a.arcs.now (list_of a.per) c.size-len.result c.size-len.ensures (list-few c.args.per (search rules)) c.if-arcs-gt-ROW_LIMIT.true
 
 pub loop-i-init : goal.loop-i-init
 loop-i-init c =
@@ -26,11 +27,11 @@ loop-i-preserved c =
     let arcs = a.arcs.now in
     let per = list_of a.per in
     let i = c.loop-i.i in
-    let one = pass-note arcs per i c.loop-i.at n.new.at c.known_few.ensures c.if-arcs-gt-ROW_LIMIT.false (search rules) n.ensures c.loop-i.invariant.1 in
+    let one = pass-note arcs per i c.loop-i.at n.new.at (list-few c.args.per (search rules)) c.if-arcs-gt-ROW_LIMIT.false (search rules) n.ensures c.loop-i.invariant.1 in
     let r = c.skip-i-in-loop-i in
     (r.ensures.1.0, pass-run arcs per (i + 1) r.result n.new.at c.marks-seen.result c.marks-seen.ensures r.ensures.0 r.ensures.1.1 one)
 
 pub returns : goal.returns
 returns c =
     let a = c.args in
-    pass-end a.arcs.now (list_of a.per) c.loop-i.i c.loop-i.at c.size-n.result c.size-n.ensures c.known_few.ensures c.loop-i-test.false c.loop-i.invariant.1
+    pass-end a.arcs.now (list_of a.per) c.loop-i.i c.loop-i.at c.size-len.result c.size-len.ensures (list-few c.args.per (search rules)) c.loop-i-test.false c.loop-i.invariant.1

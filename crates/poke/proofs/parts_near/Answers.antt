@@ -1,24 +1,12 @@
--- `poke::parts_near` meets its contract: the list, then the parts by it. Assumes nothing.
+-- The list, then the parts by it.
 use native.Mathlib.Omega.{arith}
+use mathlib.Core.Path.{subst}
+use Rattle.rules.specs.Mesh.{Mesh}
+use Rattle.edits.specs.Known.{Known}
 use Rattle.poke.proofs.parts_near.Goals as goal
 
 pub near_edit-around-requires : goal.near_edit-around-requires
-near_edit-around-requires c = omega (arith, c.size-made.ensures, c.known_few.ensures)
+near_edit-around-requires c = omega (arith, c.size.ensures, c.known_few.ensures)
 
 pub parts_in-requires : goal.parts_in-requires
-parts_in-requires c = c.near_edit-around.ensures
-
-pub shape_of-vertices : goal.shape_of-vertices
-shape_of-vertices c = c.parts_in.auto.vertices
-
-pub shape_of-arcs : goal.shape_of-arcs
-shape_of-arcs c = c.parts_in.auto.arcs
-
-pub shape_of-edges : goal.shape_of-edges
-shape_of-edges c = c.parts_in.auto.edges
-
-pub shape_of-faces : goal.shape_of-faces
-shape_of-faces c = c.parts_in.auto.faces
-
-pub returns : goal.returns
-returns c = c.parts_in.ensures
+parts_in-requires c = subst (λ (m : Mesh). Known m c.near_edit-around.result) c.view.ensures c.near_edit-around.ensures

@@ -1,33 +1,33 @@
-use native.Mathlib.Omega.{arith}
-use mathlib.Core.Path.{◌∙◌}
-use Rattle.rules.specs.Mesh.{Mesh, mesh}
+-- What the calls ensure, in the order of the law poke-steps.
+use mathlib.Core.Path.{ap, ◌∙◌}
+use Rattle.rules.specs.Table.{cell}
+use Rattle.rules.specs.Mesh.{Mesh, links_of}
+use Rattle.rules.specs.Lent.{mesh_of}
+use Rattle.rules.specs.Link.{ring_vertices}
+use Rattle.edges.proofs.Searches.{used-none}
+use Rattle.edits.proofs.Steps.{whole-refused, whole-done}
 use Rattle.edits.proofs.Whole.{poke-steps}
+use borrow.Author.Rules.{rules}
 use Rattle.poke.proofs.poke_work.Goals as goal
 
 pub new_vertex-c-requires : goal.new_vertex-c-requires
-new_vertex-c-requires c = λ k q. let z : ⊥ = omega arith in absurd z
+new_vertex-c-requires c = used-none _
 
-pub shape_of-vertices : goal.shape_of-vertices
-shape_of-vertices c = c.parts_near-told.auto.vertices ∙ c.new_vertex-c.auto.vertices
-
-pub shape_of-positions : goal.shape_of-positions
-shape_of-positions c = c.new_vertex-c.auto.positions
-
-pub shape_of-arcs : goal.shape_of-arcs
-shape_of-arcs c = c.parts_near-told.auto.arcs ∙ c.remove_face.auto.arcs
-
-pub shape_of-edges : goal.shape_of-edges
-shape_of-edges c = c.parts_near-told.auto.edges
-
-pub shape_of-faces : goal.shape_of-faces
-shape_of-faces c = c.parts_near-told.auto.faces ∙ c.remove_face.auto.faces
-
-pub returns : goal.returns
-returns c =
+pub returns-in_err-parts_near-clause-told : goal.returns-in_err-parts_near-clause-told
+returns-in_err-parts_near-clause-told c =
     let a = c.args in
-    let d = c.remove_face in
-    let n = c.new_vertex-c in
-    let t = c.parts_near-told in
-    let m : Mesh = mesh a.vertices.now a.positions.now a.arcs.now a.edges.now a.faces.now a.counters.now in
-    let mₑ : Mesh = mesh t.new.vertices n.new.positions t.new.arcs t.new.edges t.new.faces t.new.counters in
-    poke-steps m a.f a.position c.vertices_of-vs.result c.cell3-mark.result n.result d.new.arcs d.new.faces n.new.vertices n.new.positions n.new.counters mₑ t.result c.answering.result (c.vertices_of-vs.ensures a.vertices.now a.positions.now a.edges.now a.counters.now) c.cell3-mark.ensures (d.ensures a.vertices.now a.positions.now a.edges.now a.counters.now) n.ensures.0 (n.ensures.1 d.new.arcs a.edges.now d.new.faces) t.ensures (c.answering.ensures mₑ)
+    let v = c.view-view.result in
+    let vs = c.vertices_of-vs.ensures v.vertices.now v.positions.now v.edges.now v.counters.now ∙ ap (λ (m : Mesh). links_of (ring_vertices m a.f)) c.view-view.ensures in
+    let mark = c.cell-mark.ensures ∙ ap (λ (m : Mesh). cell m.faces a.f 2) c.view-view.ensures in
+    let new = c.new_vertex-c in
+    let refused = poke-steps (mesh_of a.mesh.now) (mesh_of c.remove_face.new.mesh) (mesh_of new.new.mesh) a.f a.position _ _ _ (mesh_of c.parts_near.new.mesh) _ _ vs mark c.remove_face.ensures.face new.ensures.row new.ensures.vertex c.in_err-parts_near.ensures.parts (whole-refused _ _ _) in
+    search rules
+
+pub returns-clause-told : goal.returns-clause-told
+returns-clause-told c =
+    let a = c.args in
+    let v = c.view-view.result in
+    let vs = c.vertices_of-vs.ensures v.vertices.now v.positions.now v.edges.now v.counters.now ∙ ap (λ (m : Mesh). links_of (ring_vertices m a.f)) c.view-view.ensures in
+    let mark = c.cell-mark.ensures ∙ ap (λ (m : Mesh). cell m.faces a.f 2) c.view-view.ensures in
+    let new = c.new_vertex-c in
+    poke-steps (mesh_of a.mesh.now) (mesh_of c.remove_face.new.mesh) (mesh_of new.new.mesh) a.f a.position _ _ _ (mesh_of c.parts_near.new.mesh) _ _ vs mark c.remove_face.ensures.face new.ensures.row new.ensures.vertex c.in_ok-parts_near.ensures.parts (whole-done _ _)

@@ -1,10 +1,8 @@
 -- `bodies::cells::number4` meets its contract. Assumes nothing.
-use native.Mathlib.Omega.{arith}
 use borrow.Author.Rules.{rules}
+use mathlib.Core.Path.{◌∙◌}
 use Rattle.bodies.proofs.Numbers.{four_bytes}
 use Rattle.bodies.proofs.cells.number4.Goals as goal
 
 pub returns : goal.returns
-returns c =
-    let x = c.args in
-    omega (arith, four_bytes x.text.now x.at (search rules))
+returns c = c.from_le_bytes.ensures ∙ four_bytes c.bytes_at.result (search rules) ∙ rw c.bytes_at.ensures

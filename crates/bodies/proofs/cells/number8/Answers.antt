@@ -1,10 +1,8 @@
 -- `bodies::cells::number8` meets its contract. Assumes nothing.
-use native.Mathlib.Omega.{arith}
 use borrow.Author.Rules.{rules}
-use Rattle.bodies.proofs.Numbers.{eight-bytes}
+use mathlib.Core.Path.{◌∙◌}
+use Rattle.bodies.proofs.Numbers.{eight_bytes}
 use Rattle.bodies.proofs.cells.number8.Goals as goal
 
 pub returns : goal.returns
-returns c =
-    let x = c.args in
-    omega (arith, eight-bytes x.text.now x.at (search rules))
+returns c = (c.from_le_bytes.ensures ∙ eight_bytes c.bytes_at.result (search rules) ∙ rw c.bytes_at.ensures, search rules)

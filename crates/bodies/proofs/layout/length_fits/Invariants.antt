@@ -1,5 +1,5 @@
 -- `bodies::layout::length_fits` meets its contract. The loop keeps what the counts that are left ask. Assumes nothing.
-use Prim.Native.Nat.{◌+◌, ◌-◌, ◌*◌, ◌≤◌}
+use Prim.Native.Nat.{◌+◌, ◌*◌, ◌≤◌}
 use mathlib.Core.Path.{◌≡◌}
 use lib.ListN.{drop}
 use Rattle.file.specs.File.{schema, asked}
@@ -8,7 +8,4 @@ use Rattle.bodies.proofs.layout.length_fits.Given as goal
 
 abbrev pub invariant-loop-counted : goal.invariant-loop-counted
 invariant-loop-counted l =
-    (l.counted ≤ 4) × ((l.end ≤ 44 + l.counted * 137438953440) × (44 + asked schema l.text ≡ l.end + asked (drop l.counted schema) (entry l.counted l.text)))
-
-abbrev pub decreases-loop-counted : goal.decreases-loop-counted
-decreases-loop-counted l = 4 - l.counted
+    (l.end ≤ 44 + l.counted-index * 137438953440) × (44 + asked schema l.text ≡ l.end + asked (drop l.counted-index schema) (entry l.counted-index l.text))

@@ -1,5 +1,5 @@
 -- `bodies::layout::offsets_stand` meets its contract. The loop keeps whether the bodies that are left stand in place. Assumes nothing.
-use Prim.Native.Nat.{◌+◌, ◌-◌, ◌*◌, ◌≤◌}
+use Prim.Native.Nat.{◌+◌, ◌*◌, ◌≤◌}
 use mathlib.Core.Path.{◌≡◌}
 use lib.ListN.{drop}
 use Rattle.file.specs.File.{schema, placed}
@@ -8,7 +8,4 @@ use Rattle.bodies.proofs.layout.offsets_stand.Given as goal
 
 abbrev pub invariant-loop-kind : goal.invariant-loop-kind
 invariant-loop-kind l =
-    (l.kind ≤ 4) × ((l.at ≤ 44 + l.kind * 137438953440) × (placed 44 schema l.text ≡ placed l.at (drop l.kind schema) (entry l.kind l.text)))
-
-abbrev pub decreases-loop-kind : goal.decreases-loop-kind
-decreases-loop-kind l = 4 - l.kind
+    (l.at ≤ 44 + l.kind-index * 137438953440) × (placed 44 schema l.text ≡ placed l.at (drop l.kind-index schema) (entry l.kind-index l.text))

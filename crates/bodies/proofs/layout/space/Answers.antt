@@ -1,21 +1,16 @@
 -- `bodies::layout::space` meets its contract, kind by kind. Assumes nothing.
 use native.Mathlib.Omega.{arith}
-use Rattle.file.specs.File.{total}
-use Rattle.bodies.proofs.Stands.{space-kind}
+use mathlib.Core.Path.{refl}
+use Rattle.file.specs.File.{total, body_length}
 use Rattle.bodies.proofs.layout.space.Goals as goal
-
-pub returns-then-kind-eq0 : goal.returns-then-kind-eq0
-unfolding total
-returns-then-kind-eq0 c = (space-kind c.args.kind 0 c.args.n c.if-kind-eq0.true, omega arith)
-
-pub returns-then-kind-eq1 : goal.returns-then-kind-eq1
-unfolding total
-returns-then-kind-eq1 c = (space-kind c.args.kind 1 c.args.n c.if-kind-eq1.true, omega arith)
-
-pub returns-then-kind-eq2 : goal.returns-then-kind-eq2
-unfolding total
-returns-then-kind-eq2 c = (space-kind c.args.kind 2 c.args.n c.if-kind-eq2.true, omega arith)
+use Rattle.bodies.proofs.layout.space.Goals.{in-Vertices, in-Arcs, in-Edges, in-Faces}
 
 pub returns : goal.returns
-unfolding total
-returns c = (space-kind c.args.kind 3 c.args.n (omega arith), omega arith)
+unfolding total body_length
+returns c =
+    elim c.match-kind.branch [
+      | in-Vertices w ↦ rw (w.width-is, w.in-Vertices.is) (refl, omega arith)
+      | in-Arcs w ↦ rw (w.width-is, w.in-Arcs.is) (refl, omega arith)
+      | in-Edges w ↦ rw (w.width-is, w.in-Edges.is) (refl, omega arith)
+      | in-Faces w ↦ rw (w.width-is, w.in-Faces.is) (refl, omega arith)
+    ]

@@ -1,5 +1,5 @@
 -- `bodies::search::by_ends` meets its contract. Assumes nothing.
-use native.Mathlib.Omega.{arith}
+use borrow.Author.Rules.{rules}
 use mathlib.Core.Path.{◌∙◌}
 use Rattle.bodies.proofs.Keys.{number-is-ends}
 use Rattle.bodies.proofs.search.by_ends.Goals as goal
@@ -7,6 +7,6 @@ use Rattle.bodies.proofs.search.by_ends.Goals as goal
 pub returns : goal.returns
 returns c =
     let x = c.args in
-    c.find.ensures
-    ∙ rw (c.long.ensures.0, c.long-2.ensures.0)
-    (number-is-ends x.text.now x.source x.destination c.requires.laid (omega (arith, c.long-2.ensures.0, c.long-2.ensures.1)))
+    c.link.ensures
+    ∙ rw (c.find.ensures.found, c.from.ensures, c.from-2.ensures)
+    (number-is-ends x.whole.file.text.now x.source x.destination x.whole.file.laid (search rules))

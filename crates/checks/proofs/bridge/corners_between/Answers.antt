@@ -5,11 +5,6 @@ use Rattle.pairs.proofs.Listed.{arcs-held}
 use Rattle.checks.proofs.Pairs.{corners-back}
 use Rattle.checks.proofs.bridge.corners_between.Goals as goal
 
-pub returns-then-y-ne0 : goal.returns-then-y-ne0
-returns-then-y-ne0 c =
-    let t = c.arcs_between-told in
-    (t.ensures.0, t.ensures.1 c.if-x-ne0.true c.if-y-ne0.true)
-
 pub returns : goal.returns
 returns c =
     let a = c.args in

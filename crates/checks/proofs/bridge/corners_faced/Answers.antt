@@ -10,7 +10,7 @@ use Rattle.checks.proofs.bridge.corners_faced.Goals as goal
 
 pub loop-i-init : goal.loop-i-init
 unfolding some_below
-loop-i-init c = (search rules, λ vs ps es fs ks four e. refl)
+loop-i-init c = (λ vs ps es fs ks four e. refl)
 
 pub returns-then-has_face : goal.returns-then-has_face
 returns-then-has_face c =
@@ -20,9 +20,9 @@ returns-then-has_face c =
 pub loop-i-preserved : goal.loop-i-preserved
 loop-i-preserved c =
     let a = c.args in
-    (search rules, λ vs ps es fs ks four e. some_more (has_face (mesh vs ps a.arcs.now es fs ks) four) c.loop-i.i (c.loop-i.invariant.1 vs ps es fs ks four e) (sym (c.has_face.ensures vs ps es fs ks four e) ∙ c.if-has_face.false))
+    (λ vs ps es fs ks four e. some_more (has_face (mesh vs ps a.arcs.now es fs ks) four) c.loop-i.i (c.loop-i.invariant vs ps es fs ks four e) (sym (c.has_face.ensures vs ps es fs ks four e) ∙ c.if-has_face.false))
 
 pub returns : goal.returns
 returns c =
     let all : c.loop-i.i ≡ 4 = omega arith in
-    λ vs ps es fs ks four e. sym (rw all at (c.loop-i.invariant.1 vs ps es fs ks four e))
+    λ vs ps es fs ks four e. sym (rw all at (c.loop-i.invariant vs ps es fs ks four e))

@@ -4,4 +4,4 @@ use Rattle.checks.proofs.bridge.corners_of.Goals as goal
 
 pub returns : goal.returns
 unfolding corners
-returns c = λ vs ps es fs ks. rw (c.cell6-a.ensures, c.cell6-b.ensures, c.cell6-c.ensures, c.cell6-d.ensures)
+returns c = λ vs ps es fs ks. rw (c.cell-a.ensures, c.cell-b.ensures, c.cell-c.ensures, c.cell-d.ensures)

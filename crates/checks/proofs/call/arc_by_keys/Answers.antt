@@ -5,4 +5,4 @@ use Rattle.checks.proofs.call.arc_by_keys.Goals as goal
 
 pub returns : goal.returns
 unfolding arc_by_keys
-returns c = λ ps es fs ks. c.find_arc.ensures ∙ rw (c.find_key2-a.ensures, c.find_key2-b.ensures)
+returns c = λ ps es fs ks. c.find_arc.ensures ∙ rw (c.find_key-a.ensures, c.find_key-b.ensures)

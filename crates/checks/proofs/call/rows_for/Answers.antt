@@ -1,16 +1,12 @@
 -- `checks::call::rows_for` meets its contract. The tests in their order. Assumes nothing.
-use mathlib.Core.Path.{sym, ◌∙◌}
+use Rattle.std.proofs.Common.{rules}
 use Rattle.rules.specs.Call.{rows_for}
 use Rattle.checks.proofs.call.rows_for.Goals as goal
 
-pub returns-then-not-enough2 : goal.returns-then-not-enough2
+pub returns-then-enough-2 : goal.returns-then-enough-2
 unfolding rows_for
-returns-then-not-enough2 c = λ ps ar ks. rw (sym c.enough2.ensures ∙ c.if-not-enough2.true)
+returns-then-enough-2 c = search rules
 
-pub returns-then-not-enough3 : goal.returns-then-not-enough3
+pub returns-else-enough-2 : goal.returns-else-enough-2
 unfolding rows_for
-returns-then-not-enough3 c = λ ps ar ks. rw (sym c.enough2.ensures ∙ c.if-not-enough2.false, sym c.enough3.ensures ∙ c.if-not-enough3.true)
-
-pub returns : goal.returns
-unfolding rows_for
-returns c = λ ps ar ks. rw (sym c.enough2.ensures ∙ c.if-not-enough2.false, sym c.enough3.ensures ∙ c.if-not-enough3.false) c.enough3-2.ensures
+returns-else-enough-2 c = search rules

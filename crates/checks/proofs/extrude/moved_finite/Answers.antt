@@ -1,5 +1,4 @@
 -- `checks::extrude::moved_finite` meets its contract. The loop keeps that each vertex passed by is finite once moved; laws of Scan. Assumes nothing.
-use borrow.Author.Rules.{rules}
 use native.Mathlib.Omega.{arith}
 use mathlib.Core.Path.{◌≡◌, sym, ◌∙◌}
 use lib.ListN.{length}
@@ -11,21 +10,21 @@ use Rattle.rules.proofs.Scan.{every-passes, one-fails}
 use Rattle.checks.proofs.extrude.moved_finite.Goals as goal
 
 pub loop-i-init : goal.loop-i-init
-loop-i-init c = (search rules, below_none _)
+loop-i-init c = below_none _
 
 pub returns-then-not-one_finite : goal.returns-then-not-one_finite
 unfolding moved_finite
 returns-then-not-one_finite c =
     let a = c.args in
-    λ vs ar es fs ks. sym (one-fails (λ v. finite_position (moved_position (mesh vs a.positions.now ar es fs ks) a.mv v)) (list_of a.list) 0 c.loop-i.i (omega (arith, c.size-n.ensures)) (rw c.item.ensures at (sym (c.one_finite.ensures vs ar es fs ks) ∙ c.if-not-one_finite.true)))
+    λ vs ar es fs ks. sym (one-fails (λ v. finite_position (moved_position (mesh vs a.positions.now ar es fs ks) a.mv v)) (list_of a.list) 0 c.loop-i.i (omega (arith, c.size-i-end.ensures)) (rw c.item.ensures at (sym (c.one_finite.ensures vs ar es fs ks) ∙ c.if-not-one_finite.true)))
 
 pub loop-i-preserved : goal.loop-i-preserved
 loop-i-preserved c =
-    (search rules, below_more _ _ c.loop-i.invariant.1 (λ vs ar es fs ks. rw c.item.ensures at (sym (c.one_finite.ensures vs ar es fs ks) ∙ c.if-not-one_finite.false)))
+    (below_more _ _ c.loop-i.invariant (λ vs ar es fs ks. rw c.item.ensures at (sym (c.one_finite.ensures vs ar es fs ks) ∙ c.if-not-one_finite.false)))
 
 pub returns : goal.returns
 unfolding moved_finite
 returns c =
     let a = c.args in
-    let all : c.loop-i.i ≡ length (list_of a.list) = omega (arith, c.size-n.ensures) in
-    λ vs ar es fs ks. sym (every-passes (λ v. finite_position (moved_position (mesh vs a.positions.now ar es fs ks) a.mv v)) (list_of a.list) 0 (λ k q. c.loop-i.invariant.1 k (omega arith) vs ar es fs ks))
+    let all : c.loop-i.i ≡ length (list_of a.list) = omega (arith, c.size-i-end.ensures) in
+    λ vs ar es fs ks. sym (every-passes (λ v. finite_position (moved_position (mesh vs a.positions.now ar es fs ks) a.mv v)) (list_of a.list) 0 (λ k q. c.loop-i.invariant k (omega arith) vs ar es fs ks))

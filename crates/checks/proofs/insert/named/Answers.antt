@@ -15,10 +15,10 @@ pub returns-then-has_hair : goal.returns-then-has_hair
 unfolding named_so
 returns-then-has_hair c =
     λ vs ar es fs ks.
-    rw (sym c.is_malformed-malformed.ensures ∙ c.if-malformed.false, sym c.has_from-unknown.ensures ∙ c.if-unknown.false, sym (c.has_hair.ensures vs ar es fs ks) ∙ c.if-has_hair.true)
+    rw (sym c.is_malformed-malformed.ensures ∙ c.if-malformed.false, sym c.has_from-unknown.ensures ∙ c.if-unknown.false, sym (rw c.items.ensures.value at (c.has_hair.ensures vs ar es fs ks)) ∙ c.if-has_hair.true)
 
 pub returns : goal.returns
 unfolding named_so
 returns c =
     λ vs ar es fs ks.
-    rw (sym c.is_malformed-malformed.ensures ∙ c.if-malformed.false, sym c.has_from-unknown.ensures ∙ c.if-unknown.false, sym (c.has_hair.ensures vs ar es fs ks) ∙ c.if-has_hair.false)
+    rw (sym c.is_malformed-malformed.ensures ∙ c.if-malformed.false, sym c.has_from-unknown.ensures ∙ c.if-unknown.false, sym (rw c.items.ensures.value at (c.has_hair.ensures vs ar es fs ks)) ∙ c.if-has_hair.false)

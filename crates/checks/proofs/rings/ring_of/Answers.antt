@@ -6,4 +6,4 @@ use Rattle.checks.proofs.rings.ring_of.Goals as goal
 
 pub returns : goal.returns
 unfolding ring walk_of
-returns c = λ vs ps es ks. ap (λ (x : Walk). x.links) c.ring-walk.ensures ∙ rw c.cell3.ensures
+returns c = λ vs ps es ks. ap (λ (x : Walk). x.links) c.ring.ensures ∙ rw c.cell.ensures

@@ -1,5 +1,4 @@
 -- `checks::split::held_by_other` meets its contract. The loop keeps that no pair passed by is (held l) by another face; laws of Below. Assumes nothing.
-use borrow.Author.Rules.{rules}
 use native.Mathlib.Omega.{arith}
 use mathlib.Core.Path.{◌≡◌, refl, sym, ◌∙◌}
 use lib.ListN.{length}
@@ -15,7 +14,7 @@ use Rattle.checks.proofs.split.held_by_other.Goals.{At-loop-i}
 
 pub loop-i-init : goal.loop-i-init
 unfolding some_below
-loop-i-init c = (search rules, λ vs ps es fs ks per e. refl)
+loop-i-init c = (λ vs ps es fs ks per e. refl)
 
 -- the list of arcs, at the loop
 held : (l : At-loop-i) → let a = l.args in list_of l.perimeter_arcs-xs.result ≡ arcs_of a.arcs.now (list_of a.per)
@@ -27,16 +26,16 @@ pub returns-then-other_holds : goal.returns-then-other_holds
 unfolding held_by_other
 returns-then-other_holds c =
     let a = c.args in
-    λ vs ps es fs ks. sym (some-here (taken (mesh vs ps a.arcs.now es fs ks) a.f (list_of a.per)) (length (list_of a.per)) c.loop-i.i (omega (arith, c.size-n.ensures)) (sym (c.other_holds.ensures vs ps es fs ks (list_of a.per) (held c.before.before.before)) ∙ c.if-other_holds.true))
+    λ vs ps es fs ks. sym (some-here (taken (mesh vs ps a.arcs.now es fs ks) a.f (list_of a.per)) (length (list_of a.per)) c.loop-i.i (omega (arith, c.size-i-end.ensures)) (sym (c.other_holds.ensures vs ps es fs ks (list_of a.per) (held c.before.before.before)) ∙ c.if-other_holds.true))
 
 pub loop-i-preserved : goal.loop-i-preserved
 loop-i-preserved c =
     let a = c.args in
-    (search rules, λ vs ps es fs ks per e. some_more (taken (mesh vs ps a.arcs.now es fs ks) a.f per) c.loop-i.i (c.loop-i.invariant.1 vs ps es fs ks per e) (sym (c.other_holds.ensures vs ps es fs ks per e) ∙ c.if-other_holds.false))
+    (λ vs ps es fs ks per e. some_more (taken (mesh vs ps a.arcs.now es fs ks) a.f per) c.loop-i.i (c.loop-i.invariant vs ps es fs ks per e) (sym (c.other_holds.ensures vs ps es fs ks per e) ∙ c.if-other_holds.false))
 
 pub returns : goal.returns
 unfolding held_by_other
 returns c =
     let a = c.args in
-    let all : c.loop-i.i ≡ length (list_of a.per) = omega (arith, c.size-n.ensures) in
-    λ vs ps es fs ks. sym (rw all at (c.loop-i.invariant.1 vs ps es fs ks (list_of a.per) (held c.before)))
+    let all : c.loop-i.i ≡ length (list_of a.per) = omega (arith, c.size-i-end.ensures) in
+    λ vs ps es fs ks. sym (rw all at (c.loop-i.invariant vs ps es fs ks (list_of a.per) (held c.before)))

@@ -1,5 +1,5 @@
 -- `checks::split::held_by_other` meets its contract. The loop keeps that no pair passed by is (held l) by another face; laws of Below. Assumes nothing.
-use Prim.Native.Nat.{ℕ, ◌-◌, ◌≤◌}
+use Prim.Native.Nat.{ℕ}
 use mathlib.Core.Path.{◌≡◌}
 use mathlib.Core.Bool.{false}
 use mathlib.Core.List.{List}
@@ -11,7 +11,4 @@ use Rattle.pairs.specs.Pairs.{arcs_of}
 use Rattle.checks.proofs.split.held_by_other.Given as goal
 
 abbrev pub invariant-loop-i : goal.invariant-loop-i
-invariant-loop-i l = (l.i ≤ l.n) × ((vs : Table) (ps : List (List Float)) (es fs : Table) (ks per : List ℕ) → list_of l.xs ≡ arcs_of l.arcs per → some_below (taken (mesh vs ps l.arcs es fs ks) l.f per) l.i ≡ false)
-
-abbrev pub decreases-loop-i : goal.decreases-loop-i
-decreases-loop-i l = l.n - l.i
+invariant-loop-i l = (vs : Table) (ps : List (List Float)) (es fs : Table) (ks per : List ℕ) → list_of l.xs ≡ arcs_of l.arcs per → some_below (taken (mesh vs ps l.arcs es fs ks) l.f per) l.i ≡ false

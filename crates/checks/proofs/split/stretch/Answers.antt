@@ -1,35 +1,25 @@
--- `checks::split::stretch` meets its contract. The loop keeps the places of as many as it put in; they are no more than the list has, so at most 64. Assumes nothing.
-use borrow.Author.Rules.{rules}
+-- `checks::split::stretch` meets its contract. Parts of a slice; laws of Stretches. Assumes nothing.
+use Prim.Native.Nat.{◌+◌, min}
 use native.Mathlib.Omega.{arith}
-use mathlib.Core.Path.{◌≡◌, refl}
-use Rattle.rules.specs.Mesh.{places_of, list_of}
-use Rattle.rules.specs.Edit.{stretch}
-use Rattle.lists.proofs.Laws.{keys-more}
-use Rattle.checks.proofs.Stretches.{listed, stretch-few}
+use mathlib.Core.Path.{◌≡◌, ap, ◌∙◌}
+use lib.ListN.{length}
+use Rattle.rules.specs.Mesh.{links_of}
+use Rattle.rules.specs.Edit as Edit
+use Rattle.checks.proofs.Stretches.{round-parts, straight-part}
 use Rattle.checks.proofs.split.stretch.Goals as goal
 
-pub loop-k-init : goal.loop-k-init
-unfolding places_of
-loop-k-init c = (search rules, refl)
-
-pub offset_bounds-at-k : goal.offset_bounds-at-k
-offset_bounds-at-k c =
+pub returns-then-j-i : goal.returns-then-j-i
+returns-then-j-i c =
     let a = c.args in
-    omega (arith, stretch-few (list_of a.list) a.i a.j, c.known_few.ensures, c.stretch_size-n.ensures)
-
-pub bounds-at-k : goal.bounds-at-k
-bounds-at-k c =
-    let a = c.args in
-    omega (arith, stretch-few (list_of a.list) a.i a.j, c.known_few.ensures, c.stretch_size-n.ensures)
-
-pub loop-k-preserved : goal.loop-k-preserved
-loop-k-preserved c =
-    let a = c.args in
-    let few = stretch-few (list_of a.list) a.i a.j in
-    (search rules, rw c.stretch_item.ensures (keys-more (stretch (list_of a.list) a.i a.j) c.loop-k.at c.loop-k.k (omega (arith, c.stretch_size-n.ensures)) (omega (arith, few, c.known_few.ensures, c.stretch_size-n.ensures)) c.loop-k.invariant.1))
+    let all = c.items-all in
+    let end : c.min.result ≡ min (a.j + 1) (length all.result.now) = omega (arith, c.min.ensures, c.saturating_add.ensures, all.ensures.few) in
+    let part = round-parts all.result.now a.i a.j c.min.result end c.min-then-j-i.result c.if-j-i.true c.min-then-j-i.ensures in
+    c.joined.ensures ∙ ap links_of part ∙ ap (λ l. links_of (Edit.stretch l a.i a.j)) all.ensures.value
 
 pub returns : goal.returns
 returns c =
     let a = c.args in
-    let all : c.loop-k.k ≡ c.stretch_size-n.result = omega arith in
-    listed (stretch (list_of a.list) a.i a.j) c.loop-k.at c.stretch_size-n.result c.stretch_size-n.ensures (rw all at c.loop-k.invariant.1)
+    let all = c.items-all in
+    let end : c.min.result ≡ min (a.j + 1) (length all.result.now) = omega (arith, c.min.ensures, c.saturating_add.ensures, all.ensures.few) in
+    let part = straight-part all.result.now a.i a.j c.min.result end c.min-2.result c.if-j-i.false c.min-2.ensures in
+    c.from_keys.ensures ∙ ap links_of part ∙ ap (λ l. links_of (Edit.stretch l a.i a.j)) all.ensures.value

@@ -1,9 +1,6 @@
--- The place is at most 1024. The measure is how many numbers are left.
+-- The place is at most 1024.
 use Rattle.std.proofs.Common.{◌≤◌}
 use Rattle.corners.proofs.texts.put_numbers.Given as goal
 
-abbrev pub invariant-loop-left : goal.invariant-loop-left
-invariant-loop-left l = l.at ≤ 1024
-
-abbrev pub decreases-loop-left : goal.decreases-loop-left
-decreases-loop-left l = l.left
+abbrev pub invariant-loop : goal.invariant-loop
+invariant-loop l = l.at ≤ 1024

@@ -4,8 +4,5 @@ use Rattle.edges.proofs.edge.new_edge.Goals as goal
 
 pub new_edge_from-requires : goal.new_edge_from-requires
 new_edge_from-requires c =
-    let a = c.args in
-    (used-none a.arcs.now, used-none a.edges.now)
-
-pub returns : goal.returns
-returns c = λ p f. c.new_edge_from.ensures.1 p f
+    let none = c.default.ensures in
+    rw (none.0, none.1.0) (used-none c.args.mesh.now.arcs.now, used-none c.args.mesh.now.edges.now)

@@ -1,21 +1,32 @@
--- Two new arcs, the second on what the first left; then the record and the counter.
-use mathlib.Core.List.{[]}
-use Rattle.rules.specs.Mesh.{mesh}
-use Rattle.rules.specs.Link.{new_edge}
+-- Two new arcs, the second on what the first left, which keep the counters; then the record and the counter.
+use mathlib.Core.Path.{◌≡◌, ap, ◌∙◌}
+use mathlib.Core.List.{List}
+use Prim.Native.Nat.{ℕ}
+use lib.ListN.{get_or}
+use Rattle.rules.specs.Lent.{mesh_of}
+use Rattle.rules.specs.Mesh.{Mesh, one_up}
+use Rattle.rules.specs.Table.{free_row}
+use Rattle.rules.specs.Link.{new_arc, new_edge}
 use Rattle.edges.proofs.Searches.{second_from}
 use Rattle.edges.proofs.edge.new_edge_from.Goals as goal
 
 pub new_arc-y-requires : goal.new_arc-y-requires
 new_arc-y-requires c =
     let one = c.new_arc-x in
-    second_from (mesh c.args.vertices.now [] c.args.arcs.now [] [] []) _ _ _ _ _ one.ensures.0 (one.ensures.1 [] [] [] [])
+    second_from (mesh_of c.args.mesh.now) _ _ _ _ _ one.ensures.row one.ensures.arc
 
-pub returns : goal.returns
+-- an arc keeps the counters
+counted-before : (m n : Mesh) (a b e : ℕ) → n ≡ new_arc m a b e → n.counters ≡ m.counters
+unfolding new_arc
+counted-before m n a b e q = ap (λ (o : Mesh). o.counters) q
+
+pub returns-clause-edge : goal.returns-clause-edge
 unfolding new_edge
-returns c =
-    let e = c.args.edges.now in
-    let k = c.args.counters.now in
-    let row = c.free3-row in
-    let one = c.new_arc-x in
-    let two = c.new_arc-y in
-    (λ i. record { arc = one.ensures.0 i; edge = row.ensures i; face = c.args.from.face }, λ p f. rw (← row.ensures, ← one.ensures.1 p e f k, ← two.ensures.1 p e f k, ← one.ensures.0, ← two.ensures.0, ← c.one_up-first.ensures, ← c.put_row3.ensures))
+returns-clause-edge c =
+    let row = c.free_row-row.ensures ∙ ap (λ (m : Mesh). free_row m.edges) c.view.ensures in
+    let one = c.new_arc-x.ensures in
+    let two = c.new_arc-y.ensures in
+    let counters = counted-before _ _ _ _ _ two.arc ∙ counted-before _ _ _ _ _ one.arc in
+    let first = c.one_up-first.ensures in
+    let next = first ∙ ap (λ (k : List ℕ). one_up (get_or k 1 0)) counters in
+    rw (← row, ← one.arc, ← two.arc, ← one.row, ← two.row, ← next, ← first, ← c.put_row.ensures)

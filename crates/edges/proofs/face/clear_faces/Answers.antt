@@ -12,9 +12,9 @@ loop-i-init c = search rules
 
 pub loop-i-preserved : goal.loop-i-preserved
 loop-i-preserved c =
-    (search rules, (search rules, rw (up_to-more, ← c.loop-i.invariant.1.1, ← c.item.ensures, ← c.set_face.ensures)))
+    (search rules, rw (up_to-more, ← c.loop-i.invariant.1, ← c.item.ensures, ← c.set_face.ensures))
 
 pub returns : goal.returns
 returns c =
-    let all : c.loop-i.i ≡ c.size-n.result = omega arith in
-    rw (← c.size-n.ensures, ← all) c.loop-i.invariant.1.1
+    let all : c.loop-i.i ≡ c.size-i-end.result = omega arith in
+    rw (← c.size-i-end.ensures, ← all) c.loop-i.invariant.1

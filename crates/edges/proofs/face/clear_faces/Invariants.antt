@@ -1,5 +1,4 @@
 -- After i turns the faces of the first i arcs are cleared.
-use Prim.Native.Nat.{◌≤◌, ◌-◌}
 use mathlib.Core.Path.{◌≡◌}
 use lib.ListN.{length, get_or}
 use Rattle.rules.specs.Table.{put, up_to}
@@ -7,7 +6,4 @@ use Rattle.rules.specs.Mesh.{list_of}
 use Rattle.edges.proofs.face.clear_faces.Given as goal
 
 abbrev pub invariant-loop-i : goal.invariant-loop-i
-invariant-loop-i l = (l.i ≤ l.n) × ((length l.arcs ≡ length l.initial.arcs) × (l.arcs ≡ up_to (λ j t. put t (get_or (list_of l.ring) j 0) 4 0) l.i l.initial.arcs))
-
-abbrev pub decreases-loop-i : goal.decreases-loop-i
-decreases-loop-i l = l.n - l.i
+invariant-loop-i l = (length l.arcs ≡ length l.initial.arcs) × (l.arcs ≡ up_to (λ j t. put t (get_or (list_of l.ring) j 0) 4 0) l.i l.initial.arcs)

@@ -1,50 +1,41 @@
--- `edits::near::edge_near` meets its contract: the edge is there, or is made, and the list still tells. Assumes nothing.
-use mathlib.Core.Path.{sym, subst}
-use mathlib.Core.List.{[]}
-use Rattle.rules.specs.Mesh.{Mesh, mesh}
+-- The edge is there, or is made, and the list still tells.
+use mathlib.Core.Path.{sym, subst, ap, ◌∙◌}
+use Rattle.rules.specs.Mesh.{Mesh, arc_between}
+use Rattle.rules.specs.Lent.{mesh_of}
+use Rattle.rules.proofs.Lent.{same-itself}
+use Rattle.pairs.specs.Near.{Near}
 use Rattle.pairs.proofs.Filled.{near-stays}
 use Rattle.insert.proofs.Filled.{Filled, filled-edge}
 use Rattle.edits.proofs.Known.{edge-there, edge-made}
 use Rattle.edits.proofs.near.edge_near.Goals as goal
 
-pub arc_between_near-x-requires : goal.arc_between_near-x-requires
-arc_between_near-x-requires c = c.requires.near
+pub arc_between-x-requires : goal.arc_between-x-requires
+arc_between-x-requires c = subst (λ (m : Mesh). Near m.arcs c.args.around.now.near) (sym c.view.ensures) c.requires.near
 
 pub returns-then-x-ne0 : goal.returns-then-x-ne0
 returns-then-x-ne0 c =
     let a = c.args in
-    let x = c.arc_between_near-x in
-    (λ p f. let m : Mesh = mesh a.vertices.now p a.arcs.now a.edges.now f a.counters.now in edge-there m m a.a a.b x.result x.ensures c.if-x-ne0.true, x.ensures)
+    let m = mesh_of a.mesh.now in
+    let x = c.arc_between-x.ensures ∙ ap (λ (n : Mesh). arc_between n.arcs a.a a.b) c.view.ensures in
+    record { edge = edge-there m m a.a a.b _ x c.if-x-ne0.true; arc = x; same = same-itself _ }
 
-pub new_edge_from-requires : goal.new_edge_from-requires
-new_edge_from-requires c = c.requires.used_before
-
-pub arc_between_near-requires : goal.arc_between_near-requires
-arc_between_near-requires c =
+pub arc_between-requires : goal.arc_between-requires
+arc_between-requires c =
     let a = c.args in
+    let m = mesh_of a.mesh.now in
     let g = c.new_edge_from in
-    let m : Mesh = mesh a.vertices.now [] a.arcs.now a.edges.now [] a.counters.now in
-    let n : Mesh = mesh g.new.vertices [] g.new.arcs g.new.edges [] g.new.counters in
-    let filled : Filled m n = subst (Filled m) (sym (g.ensures.1 [] [])) (filled-edge m a.a a.b) in
-    near-stays m.arcs n.arcs a.seen.now a.near.now a.around.by filled.arcs c.requires.near
-
-pub shape_of-vertices : goal.shape_of-vertices
-shape_of-vertices c = c.new_edge_from.auto.vertices
-
-pub shape_of-arcs : goal.shape_of-arcs
-shape_of-arcs c = c.new_edge_from.auto.arcs
-
-pub shape_of-edges : goal.shape_of-edges
-shape_of-edges c = c.new_edge_from.auto.edges
+    let filled : Filled m (mesh_of g.new.mesh) = subst (Filled m) (sym g.ensures.edge) (filled-edge m a.a a.b) in
+    let near = near-stays m.arcs g.new.mesh.arcs.now a.around.now.near filled.arcs c.requires.near in
+    subst (λ (n : Mesh). Near n.arcs a.around.now.near) (sym c.view-2.ensures) near
 
 pub returns : goal.returns
 returns c =
     let a = c.args in
+    let m = mesh_of a.mesh.now in
     let g = c.new_edge_from in
-    let x = c.arc_between_near-x in (
-      λ p f.
-          let m : Mesh = mesh a.vertices.now p a.arcs.now a.edges.now f a.counters.now in
-          let n : Mesh = mesh g.new.vertices p g.new.arcs g.new.edges f g.new.counters in
-          edge-made m n a.a a.b x.result x.ensures c.if-x-ne0.false (g.ensures.1 p f),
-      c.arc_between_near.ensures,
-    )
+    let x = c.arc_between-x.ensures ∙ ap (λ (n : Mesh). arc_between n.arcs a.a a.b) c.view.ensures in
+    record {
+      edge = edge-made m (mesh_of g.new.mesh) a.a a.b _ x c.if-x-ne0.false g.ensures.edge;
+      arc = c.arc_between.ensures ∙ ap (λ (n : Mesh). arc_between n.arcs a.a a.b) c.view-2.ensures;
+      same = g.ensures.same;
+    }

@@ -1,16 +1,19 @@
 -- `fills::cells::bytes_before` meets its contract. Assumes nothing.
 use native.Mathlib.Omega.{arith}
+use mathlib.Core.Path.{ap}
+use Rattle.bodies.specs.Kinds.{number}
+use Rattle.bodies.proofs.InOrder.{number-small, not-vertices}
 use Rattle.fills.proofs.Widths.{few-cells, fours, first-none, last-behind}
 use Rattle.fills.proofs.cells.bytes_before.Goals as goal
 
-pub overflow_mul-result : goal.overflow_mul-result
-overflow_mul-result c = omega (arith, c.requires.1.there, few-cells c.args.kind c.requires.0)
-
-pub returns-then-kind-ne-VERTICES : goal.returns-then-kind-ne-VERTICES
-returns-then-kind-ne-VERTICES c = fours c.args.kind c.args.j c.requires.0 c.if-kind-ne-VERTICES.true c.requires.1
-
 pub returns-then-j-eq0 : goal.returns-then-j-eq0
-returns-then-j-eq0 c = first-none c.args.kind c.args.j c.if-kind-ne-VERTICES.false c.if-j-eq0.true
+returns-then-j-eq0 c = first-none (number c.args.kind) c.args.j (ap number c.in-Vertices.is) c.if-j-eq0.true
 
-pub returns : goal.returns
-returns c = last-behind c.args.kind c.args.j c.if-kind-ne-VERTICES.false c.if-j-eq0.false c.requires.1
+pub returns-else-j-eq0 : goal.returns-else-j-eq0
+returns-else-j-eq0 c = last-behind (number c.args.kind) c.args.j (ap number c.in-Vertices.is) c.if-j-eq0.false c.requires
+
+pub overflow_mul-result : goal.overflow_mul-result
+overflow_mul-result c = omega (arith, c.requires.there, few-cells (number c.args.kind) (number-small c.args.kind))
+
+pub returns-in_default : goal.returns-in_default
+returns-in_default c = fours (number c.args.kind) c.args.j (number-small c.args.kind) (not-vertices c.args.kind c.in_default.not-Vertices) c.requires

@@ -1,30 +1,14 @@
--- `fills::fill::fill_faces` meets its contract. The loop keeps the rows of the records passed by over the first rows. Assumes nothing.
-use native.Mathlib.Omega.{arith}
-use mathlib.Core.Path.{refl}
+-- `fills::fill::fill_faces` meets its contract. Assumes nothing.
+use mathlib.Core.Path.{sym}
 use mathlib.Core.List.{[]}
-use lib.ListN.{length-set}
 use borrow.Author.Rules.{rules}
 use Rattle.file.specs.File.{contents_in, face_row}
 use Rattle.bodies.specs.Bodies.{records_in}
-use Rattle.fills.proofs.Over.{over-more, over-all}
+use Rattle.fills.proofs.Over.{over-made}
 use Rattle.fills.proofs.fill.fill_faces.Goals as goal
-
-pub loop-i-init : goal.loop-i-init
-loop-i-init c = (refl, (search rules, refl))
-
-pub loop-i-preserved : goal.loop-i-preserved
-loop-i-preserved c =
-    let l = c.loop-i in
-    let t = c.args.text.now in (
-      simp length-set l.invariant.0,
-      (
-        search rules,
-        over-more (face_row (contents_in t)) (records_in t 3) c.args.faces.now l.faces l.i [] c.face_row.result (search rules) (search rules) l.invariant.1.1 c.face_row.ensures,
-      ),
-    )
 
 pub returns : goal.returns
 returns c =
-    let l = c.loop-i in
-    let t = c.args.text.now in
-    over-all (face_row (contents_in t)) (records_in t 3) c.args.faces.now l.faces l.i (omega arith) l.invariant.1.1
+    let t = c.args.file.whole.file.text.now in
+    over-made (face_row (contents_in t)) (records_in t 3) c.args.faces.now _ [] c.fill.auto.table c.requires (λ i d l. (c.fill.ensures.made i d (search rules)).1.1)
+    (rw (sym c.count-n.ensures.0) c.fill.ensures.rest)

@@ -1,39 +1,25 @@
--- `fills::holding::keys_fit` meets its contract. The loop keeps that each key passed by can be held. Assumes nothing.
+-- `fills::holding::keys_fit` meets its contract: a test of every record is one of every place. Assumes nothing.
 use native.Mathlib.Omega.{arith}
-use mathlib.Core.Path.{sym, ◌∙◌}
-use borrow.Author.Rules.{rules}
+use mathlib.Core.Path.{refl, ap, sym, ◌∙◌}
 use mathlib.Core.List.{[]}
-use lib.ListN.{length, get_or}
-use borrow.Author.Tests.{lt-ltb, le-ltb}
-use Rattle.names.proofs.Loops.{none_yet, one_more, all-passed, one-failed, every-all}
+use Prim.Native.Nat.{ℕ}
+use lib.ListN.{get_or}
+use Rattle.std.proofs.Common.{rules}
+use Rattle.std.proofs.lemmas.Iterator.{YieldsList-from_range}
+use Rattle.std.proofs.lemmas.Iterator.Search.{all_from_yields_List}
+use Rattle.rules.specs.Table.{all_below}
+use Rattle.names.proofs.Loops.{list-below, every-all}
 use Rattle.bodies.specs.Bodies.{records_in}
+use Rattle.bodies.specs.Kinds.{number}
 use Rattle.fills.specs.Fills.{key_fits}
-use Rattle.fills.proofs.Widths.{key-four}
 use Rattle.fills.proofs.holding.keys_fit.Goals as goal
-
-pub loop-i-init : goal.loop-i-init
-loop-i-init c = (search rules, none_yet _)
-
-pub cell-requires : goal.cell-requires
-cell-requires c = (search rules, key-four c.args.kind c.requires.1)
-
-pub returns-then-cell-ge-NONE : goal.returns-then-cell-ge-NONE
-unfolding key_fits
-returns-then-cell-ge-NONE c =
-    let rows = records_in c.args.text.now c.args.kind in
-    let i = c.loop-i.i in
-    one-failed (λ j. key_fits (get_or rows j [])) (length rows) i (search rules)
-    (le-ltb (get_or (get_or rows i []) 0 0) 4294967295 (omega (arith, c.cell.ensures, c.if-cell-ge-NONE.true)))
-    ∙ sym (every-all key_fits rows [])
-
-pub loop-i-preserved : goal.loop-i-preserved
-unfolding key_fits
-loop-i-preserved c =
-    let rows = records_in c.args.text.now c.args.kind in
-    let i = c.loop-i.i in
-    (search rules, one_more (λ j. key_fits (get_or rows j [])) i c.loop-i.invariant.1 (lt-ltb (get_or (get_or rows i []) 0 0) 4294967295 (omega (arith, c.cell.ensures, c.if-cell-ge-NONE.false))))
 
 pub returns : goal.returns
 returns c =
-    let rows = records_in c.args.text.now c.args.kind in
-    all-passed (λ j. key_fits (get_or rows j [])) (length rows) c.loop-i.i (search rules) (search rules) c.loop-i.invariant.1 ∙ sym (every-all key_fits rows [])
+    let rows = records_in c.args.file.text.now (number c.args.kind) in
+    let n = c.count.result in
+    let q = λ (i : ℕ). key_fits (get_or rows i []) in
+    all_from_yields_List q _ _ _ c.all.ensures.ran (YieldsList-from_range 0 n n refl (omega arith)) (λ x b f k. search rules)
+    ∙ list-below q n
+    ∙ ap (all_below q) c.count.ensures.0
+    ∙ sym (every-all key_fits rows [])

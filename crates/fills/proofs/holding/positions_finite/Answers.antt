@@ -1,28 +1,24 @@
--- `fills::holding::positions_finite` meets its contract. The loop keeps that each position passed by is finite. Assumes nothing.
-use mathlib.Core.Path.{sym, ◌∙◌}
-use borrow.Author.Rules.{rules}
+-- `fills::holding::positions_finite` meets its contract: a test of every record is one of every place. Assumes nothing.
+use native.Mathlib.Omega.{arith}
+use mathlib.Core.Path.{refl, ap, sym, ◌∙◌}
 use mathlib.Core.List.{[]}
-use lib.ListN.{length, get_or}
-use Rattle.names.proofs.Loops.{none_yet, one_more, all-passed, one-failed, every-all}
+use Prim.Native.Nat.{ℕ}
+use lib.ListN.{get_or}
+use Rattle.std.proofs.Common.{rules}
+use Rattle.std.proofs.lemmas.Iterator.{YieldsList-from_range}
+use Rattle.std.proofs.lemmas.Iterator.Search.{all_from_yields_List}
+use Rattle.rules.specs.Table.{all_below}
+use Rattle.names.proofs.Loops.{list-below, every-all}
 use Rattle.bodies.specs.Bodies.{records_in}
 use Rattle.fills.specs.Fills.{finite_record}
 use Rattle.fills.proofs.holding.positions_finite.Goals as goal
 
-pub loop-i-init : goal.loop-i-init
-loop-i-init c = (search rules, none_yet _)
-
-pub returns-then-not-finite_record : goal.returns-then-not-finite_record
-returns-then-not-finite_record c =
-    let rows = records_in c.args.text.now 0 in
-    one-failed (λ j. finite_record (get_or rows j [])) (length rows) c.loop-i.i (search rules) (sym c.finite_record.ensures ∙ c.if-not-finite_record.true)
-    ∙ sym (every-all finite_record rows [])
-
-pub loop-i-preserved : goal.loop-i-preserved
-loop-i-preserved c =
-    let rows = records_in c.args.text.now 0 in
-    (search rules, one_more (λ j. finite_record (get_or rows j [])) c.loop-i.i c.loop-i.invariant.1 (sym c.finite_record.ensures ∙ c.if-not-finite_record.false))
-
 pub returns : goal.returns
 returns c =
-    let rows = records_in c.args.text.now 0 in
-    all-passed (λ j. finite_record (get_or rows j [])) (length rows) c.loop-i.i (search rules) (search rules) c.loop-i.invariant.1 ∙ sym (every-all finite_record rows [])
+    let rows = records_in c.args.file.text.now 0 in
+    let n = c.count.result in
+    let q = λ (i : ℕ). finite_record (get_or rows i []) in
+    all_from_yields_List q _ _ _ c.all.ensures.ran (YieldsList-from_range 0 n n refl (omega arith)) (λ x b f k. search rules)
+    ∙ list-below q n
+    ∙ ap (all_below q) c.count.ensures.0
+    ∙ sym (every-all finite_record rows [])

@@ -1,32 +1,24 @@
--- `insert::face::insert_work` meets its contract: the pass over the arcs, the lookups in its list, then the insert by what they found. Assumes nothing.
-use Rattle.rules.specs.Mesh.{list_of}
+-- The pass over the arcs, the lookups in its list, then the insert by what they found.
+use mathlib.Core.Path.{ap, subst, ◌∙◌}
+use Rattle.rules.specs.Mesh.{Mesh, list_of}
+use Rattle.rules.specs.Lent.{mesh_of}
+use Rattle.edges.specs.Free.{UsedBefore}
 use Rattle.edges.proofs.Searches.{used-none}
+use Rattle.pairs.specs.Pairs.{arcs_of}
 use Rattle.pairs.proofs.Listed.{arcs-held}
 use Rattle.insert.proofs.face.insert_work.Goals as goal
 
-pub perimeter_arcs_near-found-requires : goal.perimeter_arcs_near-found-requires
-perimeter_arcs_near-found-requires c = c.list_near-by.ensures.0
+pub perimeter_arcs-found-requires : goal.perimeter_arcs-found-requires
+perimeter_arcs-found-requires c = c.list.ensures.near
 
 pub insert_by-requires : goal.insert_by-requires
 insert_by-requires c =
-    let a = c.args in
-    let found = c.perimeter_arcs_near-found in
+    let m = mesh_of c.args.mesh.now in
+    let per = list_of c.args.per in
+    let found = c.perimeter_arcs-found in
+    let here = arcs-held _ per found.result c.known_few.ensures found.ensures in
+    let none = c.default.ensures in
     record {
-      found_value = arcs-held a.arcs.now (list_of a.per) found.result c.known_few.ensures found.ensures;
-      used_before = (c.list_near-by.ensures.1, (used-none a.edges.now, used-none a.faces.now));
+      found_value = here ∙ ap (λ (n : Mesh). arcs_of n.arcs per) c.view.ensures;
+      used_before = (subst (λ (n : Mesh). UsedBefore n.arcs c.list.new.self.first) c.view.ensures c.list.ensures.first, rw (none.1.0, none.1.1) (used-none m.edges, used-none m.faces));
     }
-
-pub shape_of-vertices : goal.shape_of-vertices
-shape_of-vertices c = c.insert_by.auto.vertices
-
-pub shape_of-arcs : goal.shape_of-arcs
-shape_of-arcs c = c.insert_by.auto.arcs
-
-pub shape_of-edges : goal.shape_of-edges
-shape_of-edges c = c.insert_by.auto.edges
-
-pub shape_of-faces : goal.shape_of-faces
-shape_of-faces c = c.insert_by.auto.faces
-
-pub returns : goal.returns
-returns c = λ p. c.insert_by.ensures p

@@ -1,20 +1,19 @@
--- `insert::perimeter::edges_in` meets its contract. The loop keeps the edges of the pairs passed by, that the arcs found before still tell, and
--- where unused rows may be looked for; laws of Apart. The perimeter is told by its array. Assumes nothing.
-use Prim.Native.Nat.{◌-◌, ◌≤◌}
+-- The edges of the pairs passed by, that the arcs found before still tell, and where unused rows may be looked for. The perimeter is told by its
+-- array.
 use mathlib.Core.Path.{◌≡◌}
-use mathlib.Core.List.{List}
 use lib.ListN.{length, take}
-use lib.Ieee.{Float}
-use Rattle.rules.specs.Table.{Table, up_to}
-use Rattle.rules.specs.Mesh.{mesh, list_of}
-use Rattle.edges.specs.Free.{UsedBefore}
+use Rattle.rules.specs.Table.{up_to}
+use Rattle.rules.specs.Mesh.{list_of}
+use Rattle.rules.specs.Lent.{mesh_of, SameMesh}
 use Rattle.insert.specs.Perimeter.{edge_in}
-use Rattle.insert.proofs.Apart.{Telling}
+use Rattle.insert.proofs.Apart.{Telling, MayStart}
 use Rattle.insert.proofs.Told.{Told}
 use Rattle.insert.proofs.perimeter.edges_in.Given as goal
 
 abbrev pub invariant-loop-i : goal.invariant-loop-i
-invariant-loop-i l = (l.i ≤ l.n) × ((length l.vertices ≡ length l.initial.vertices) × ((length l.arcs ≡ length l.initial.arcs) × ((length l.edges ≡ length l.initial.edges) × (((p : List (List Float)) (f : Table) → mesh l.vertices p l.arcs l.edges f l.counters ≡ up_to (edge_in (take l.n l.ends)) l.i (mesh l.initial.vertices p l.initial.arcs l.initial.edges f l.initial.counters)) × (Telling l.arcs (take l.n l.ends) (list_of l.xs) l.i × ((UsedBefore l.arcs l.from.arc × UsedBefore l.edges l.from.edge) × ((length l.at ≡ 64) × Told l.arcs (take l.n l.ends) l.at l.i)))))))
-
-abbrev pub decreases-loop-i : goal.decreases-loop-i
-decreases-loop-i l = l.n - l.i
+invariant-loop-i l =
+    SameMesh l.initial.mesh l.mesh
+    × ((mesh_of l.mesh ≡ up_to (edge_in (take l.n l.ends)) l.i (mesh_of l.initial.mesh))
+    × (Telling l.mesh.arcs.now (take l.n l.ends) (list_of l.xs) l.i
+    × (MayStart (mesh_of l.mesh) l.from
+    × ((length l.at ≡ 64) × Told l.mesh.arcs.now (take l.n l.ends) l.at l.i))))

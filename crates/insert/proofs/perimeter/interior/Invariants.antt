@@ -1,4 +1,4 @@
-use Prim.Native.Nat.{◌-◌, ◌≤◌}
+-- The interior of the pairs passed by.
 use mathlib.Core.Path.{◌≡◌}
 use lib.ListN.{length, take}
 use Rattle.rules.specs.Table.{up_to}
@@ -6,7 +6,4 @@ use Rattle.insert.proofs.Loops.{interior_in}
 use Rattle.insert.proofs.perimeter.interior.Given as goal
 
 abbrev pub invariant-loop-i : goal.invariant-loop-i
-invariant-loop-i l = (l.i ≤ l.n) × ((length l.arcs ≡ length l.initial.arcs) × (l.arcs ≡ up_to (interior_in (take l.n l.at) l.face) l.i l.initial.arcs))
-
-abbrev pub decreases-loop-i : goal.decreases-loop-i
-decreases-loop-i l = l.n - l.i
+invariant-loop-i l = (length l.arcs ≡ length l.initial.arcs) × (l.arcs ≡ up_to (interior_in (take l.n l.at) l.face) l.i l.initial.arcs)

@@ -1,5 +1,4 @@
--- `insert::search::search_lists` meets its contract. The loop keeps what was found for the vertices passed by. Assumes nothing.
-use Prim.Native.Nat.{◌-◌, ◌≤◌}
+-- What was found for the vertices passed by.
 use mathlib.Core.List.{◌++◌}
 use lib.ListN.{take}
 use Rattle.walks.proofs.Listing.{Made}
@@ -7,7 +6,7 @@ use Rattle.insert.proofs.Seeking.{out_of, back_of}
 use Rattle.insert.proofs.search.search_lists.Given as goal
 
 abbrev pub invariant-loop-i : goal.invariant-loop-i
-invariant-loop-i l = (l.i ≤ l.n) × (Made (out_of l.vertices l.arcs l.edges (take l.found.len l.mine ++ take l.others.len l.theirs)) (take l.n l.from) l.outs l.i × Made (back_of l.vertices l.arcs l.edges (take l.found.len l.mine ++ take l.others.len l.theirs)) (take l.n l.from) l.backs l.i)
-
-abbrev pub decreases-loop-i : goal.decreases-loop-i
-decreases-loop-i l = l.n - l.i
+invariant-loop-i l =
+    let soon = l.mine ++ l.theirs in
+    Made (out_of l.mesh.vertices.now l.mesh.arcs.now l.mesh.edges.now soon) (take l.n l.from) l.outs l.i
+    × Made (back_of l.mesh.vertices.now l.mesh.arcs.now l.mesh.edges.now soon) (take l.n l.from) l.backs l.i

@@ -1,13 +1,7 @@
--- `insert::search::tried` meets its contract: each way out is one of the three cases. Assumes nothing.
-use mathlib.Core.Path.{refl}
-use mathlib.Core.Logic.{inl, inr}
+-- The last of the three cases: nothing was found before, and the arc is not held.
+use mathlib.Core.Path.{refl, sym, ◌∙◌}
+use mathlib.Core.Logic.{inr}
 use Rattle.insert.proofs.search.tried.Goals as goal
 
-pub returns-then-done : goal.returns-then-done
-returns-then-done c = inl (c.if-done.true, c.if-done.true, refl)
-
-pub returns-then-held : goal.returns-then-held
-returns-then-held c = inr (inl (c.if-done.false, c.if-held.true, c.if-done.false, refl))
-
 pub returns : goal.returns
-returns c = inr (inr (c.if-done.false, c.if-held.false, refl, refl))
+returns c = inr (inr (sym c.is_some.ensures ∙ c.if-is_some.false, c.if-held.false, refl, refl))

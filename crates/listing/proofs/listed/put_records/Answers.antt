@@ -1,76 +1,49 @@
--- The loop has written the lines of the links that it passed. Assumes nothing.
-use Prim.Native.Nat.{◌≤◌}
+-- The loop has written the lines of the links that it passed, each of at most 128 bytes. Assumes nothing.
 use native.Mathlib.Omega.{arith}
-use mathlib.Core.Path.{refl, ap, ◌∙◌}
-use mathlib.Core.List.{[]}
-use lib.ListN.{length}
+use Prim.Native.Nat.{ℕ}
+use mathlib.Core.List.{List}
+use Rattle.orders.specs.Order.{links_of}
+use mathlib.Core.Path.{◌≡◌, refl, ap, ◌∙◌}
+use lib.ListN.{take}
+use lib.Seq.{length-take-le, take_all}
 use borrow.Author.Rules.{rules}
-use Rattle.rules.specs.Mesh.{mesh}
+use Rattle.rules.specs.Lent.{mesh_in}
 use Rattle.script.specs.Texts.{wrote}
 use Rattle.script.proofs.Writes.{wrote_none}
-use Rattle.listing.specs.Order.{tables, table_of, links_of}
-use Rattle.listing.specs.Lines.{line_of, joined_lines}
-use Rattle.listing.proofs.Sorting.{rows_few}
-use Rattle.listing.proofs.Lining.{links-room, line-more, lines-all}
+use Rattle.listing.specs.Lines.{line_of, joined_lines, kind_text}
+use Rattle.listing.proofs.Lining.{line-more}
 use Rattle.listing.proofs.listed.put_records.Goals as goal
 
-pub in_order-order-requires : goal.in_order-order-requires
-in_order-order-requires c =
-    let a = c.args in
-    rows_few a.vertices.now a.arcs.now a.edges.now a.faces.now a.kind c.requires.listable
-
-pub loop-i-init : goal.loop-i-init
+pub loop-x-init : goal.loop-x-init
 unfolding joined_lines
-loop-i-init c = (search rules, (search rules, (refl, wrote_none c.args.out.now 0 (omega arith))))
-
-pub offset_bounds-links-i : goal.offset_bounds-links-i
-offset_bounds-links-i c =
-    let a = c.args in
-    let few : length (table_of (tables a.vertices.now a.arcs.now a.edges.now a.faces.now) a.kind) ≤ 256 = rows_few a.vertices.now a.arcs.now a.edges.now a.faces.now a.kind c.requires.listable in
-    omega (arith, c.loop-i-test.true, c.in_order-order.ensures.few, few)
-
-pub bounds-links-i : goal.bounds-links-i
-bounds-links-i c =
-    let a = c.args in
-    let few : length (table_of (tables a.vertices.now a.arcs.now a.edges.now a.faces.now) a.kind) ≤ 256 = rows_few a.vertices.now a.arcs.now a.edges.now a.faces.now a.kind c.requires.listable in
-    omega (arith, c.loop-i-test.true, c.in_order-order.ensures.few, few)
+loop-x-init c = (search rules, (refl, wrote_none c.args.out.now 0 (omega arith)))
 
 pub put_line-at-requires : goal.put_line-at-requires
 put_line-at-requires c =
-    let a = c.args in
-    let few : length (table_of (tables a.vertices.now a.arcs.now a.edges.now a.faces.now) a.kind) ≤ 256 = rows_few a.vertices.now a.arcs.now a.edges.now a.faces.now a.kind c.requires.listable in
-    omega (arith, c.loop-i-test.true, c.loop-i.invariant.1.0, c.loop-i.invariant.1.1.0, c.in_order-order.ensures.few, few, c.requires.in_bounds)
+    let o = c.in_order-n in
+    omega (arith, length-take-le o.result o.new.links o.ensures.within, o.ensures.within, o.auto.links, c.loop-x-test.true, c.loop-x.invariant.0, c.loop-x.auto.out, c.requires.in_bounds)
 
-pub loop-i-preserved : goal.loop-i-preserved
-loop-i-preserved c =
-    let a = c.args in
-    let few : length (table_of (tables a.vertices.now a.arcs.now a.edges.now a.faces.now) a.kind) ≤ 256 = rows_few a.vertices.now a.arcs.now a.edges.now a.faces.now a.kind c.requires.listable in
-    let o = c.in_order-order in
-    let w = c.put_line-at in
-    let t = c.loop-i-test.true in
-    let room = links-room o.result (links_of (tables a.vertices.now a.arcs.now a.edges.now a.faces.now) a.kind) o.ensures.value in (
-      search rules,
+pub loop-x-preserved : goal.loop-x-preserved
+loop-x-preserved c =
+    let o = c.in_order-n in
+    let w = c.put_line-at in (
+      omega (arith, w.ensures.short, c.loop-x.invariant.0),
       (
-        omega (arith, w.ensures.short, c.loop-i.invariant.1.0),
-        (
-          w.auto.out ∙ c.loop-i.invariant.1.1.0,
-          line-more (line_of (mesh a.vertices.now a.positions.now a.arcs.now a.edges.now a.faces.now []) a.kind) o.result.links c.loop-i.i a.out.now c.loop-i.out w.new.out c.loop-i.at w.result
-              (omega (arith, t, room)) (omega (arith, t, w.ensures.short, c.loop-i.invariant.1.0, o.ensures.few, few, c.requires.in_bounds)) c.loop-i.invariant.1.1.1 w.ensures.result_after,
-        ),
+        w.auto.out ∙ c.loop-x.invariant.1.0,
+        line-more (line_of (mesh_in c.args.mesh) c.args.kind) (take o.result o.new.links) c.loop-x.x-index c.args.out.now c.loop-x.out w.new.out c.loop-x.at w.result c.from.result c.loop-x-test.true c.from.ensures
+            (omega (arith, length-take-le o.result o.new.links o.ensures.within, o.ensures.within, o.auto.links, c.loop-x-test.true, c.loop-x.invariant.0, w.ensures.short, c.requires.in_bounds)) c.loop-x.invariant.1.1 w.ensures.result_after,
       ),
     )
 
-pub shape_of-out : goal.shape_of-out
-shape_of-out c = c.loop-i.invariant.1.1.0
+pub returns-clause-result_after : goal.returns-clause-result_after
+unfolding kind_text
+returns-clause-result_after c =
+    let o = c.in_order-n in
+    let all : take c.loop-x.x-index (take o.result o.new.links) ≡ links_of (mesh_in c.args.mesh) c.args.kind =
+    take_all c.loop-x.x-index (take o.result o.new.links) c.loop-x-test.false ∙ o.ensures.links_after in
+    c.loop-x.invariant.1.1 ∙ ap (λ (ls : List ℕ). wrote c.args.out.now 0 (joined_lines (line_of (mesh_in c.args.mesh) c.args.kind) ls)) all
 
-pub returns : goal.returns
-returns c =
-    let a = c.args in
-    let few : length (table_of (tables a.vertices.now a.arcs.now a.edges.now a.faces.now) a.kind) ≤ 256 = rows_few a.vertices.now a.arcs.now a.edges.now a.faces.now a.kind c.requires.listable in
-    let o = c.in_order-order in
-    record {
-      result_after =
-          c.loop-i.invariant.1.1.1
-          ∙ ap (wrote a.out.now 0) (lines-all a.vertices.now a.positions.now a.arcs.now a.edges.now a.faces.now a.kind o.result o.ensures.value c.loop-i.i c.loop-i.invariant.0 c.loop-i-test.false);
-      short = omega (arith, c.loop-i.invariant.0, c.loop-i.invariant.1.0, c.loop-i.invariant.1.1.0, o.ensures.few, few, c.requires.in_bounds);
-    }
+pub returns-clause-short : goal.returns-clause-short
+returns-clause-short c =
+    let o = c.in_order-n in
+    omega (arith, length-take-le o.result o.new.links o.ensures.within, o.ensures.within, o.auto.links, c.loop-x.auto.x-index-end, c.loop-x.invariant.0, c.loop-x.auto.out, c.requires.in_bounds)

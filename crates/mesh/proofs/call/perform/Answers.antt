@@ -2,12 +2,19 @@
 use Prim.Native.Nat.{ℕ, ◌≤◌}
 use native.Mathlib.Omega.{arith}
 use mathlib.Core.Path.{◌≡◌, ap, sym, ◌∙◌}
+use mathlib.Core.Bool.{true, false}
 use mathlib.Core.List.{List}
 use lib.ListN.{length}
-use Rattle.rules.specs.declared.Answer.{Answer}
-use Rattle.rules.specs.Mesh.{Mesh, mesh}
+use Rattle.std.proofs.Common.{rules, Result, Ok, Err}
+use Rattle.rules.specs.declared.Refusal.{Refusal}
+use Rattle.rules.specs.declared.Told.{Told}
+use Rattle.rules.specs.Answer.{Answer}
+use Rattle.rules.specs.Lent.{mesh_of, answered, allowed}
+use Rattle.rules.specs.Mesh.{Mesh}
 use Rattle.rules.specs.Step.{step, accepted}
-use Rattle.order.specs.Transaction.{left, is_keeps}
+use Rattle.kept.specs.Frame.{ThreeCounters}
+use Rattle.order.specs.declared.settle.Way.TheVariants.{Keeps}
+use Rattle.order.specs.Transaction.{left, before_work, way_of}
 use Rattle.mesh.proofs.Calling.{performed, not-performed, few-keys}
 use Rattle.mesh.proofs.Keeping.{in_place_lem}
 use Rattle.mesh.proofs.call.perform.Goals as goal
@@ -15,84 +22,38 @@ use Rattle.mesh.proofs.call.perform.Goals as goal
 three : (k : List ℕ) → length k ≡ 3 → 3 ≤ length k
 three k e = omega (arith, e)
 
-pub returns-then-not-accepted : goal.returns-then-not-accepted
-returns-then-not-accepted c =
-    let x = c.args in
-    let m : Mesh = mesh x.vertices.now x.positions.now x.arcs.now x.edges.now x.faces.now x.counters.now in
-    ap (λ (y : Answer). left y m) c.decide-first.ensures
-    ∙ not-performed m x.edit x.keys.now (ap accepted (sym c.decide-first.ensures) ∙ sym c.accepted.ensures ∙ c.if-not-accepted.true)
+-- what is decided first passes, or is refused
+passed : (r : Result (Unit {0}) Refusal) (u : Unit {0}) (b : Answer) → r ≡ Ok u → allowed r ≡ b → accepted b ≡ true
+unfolding accepted
+passed r u b q e = ap accepted (sym e) ∙ rw q
+
+refused : (r : Result Told Refusal) (e : Refusal) → r ≡ Err e → accepted (answered r) ≡ false
+unfolding accepted
+refused r e q = rw q
+
+pub returns-in_err-decide-clause-left : goal.returns-in_err-decide-clause-left
+returns-in_err-decide-clause-left c =
+    let m = mesh_of c.args.mesh.now in
+    let is : answered c.from_residual.result ≡ before_work m c.args.edit c.args.keys.now = search rules in
+    let no : accepted (answered c.from_residual.result) ≡ false = search (rules, refused) in
+    ap (λ (y : Answer). left y m) is ∙ not-performed m c.args.edit c.args.keys.now (ap accepted (sym is) ∙ no)
 
 pub work-requires : goal.work-requires
-work-requires c =
-    let x = c.args in
-    few-keys (mesh x.vertices.now x.positions.now x.arcs.now x.edges.now x.faces.now x.counters.now) x.edit x.keys.now (ap accepted (sym c.decide-first.ensures) ∙ sym c.accepted.ensures ∙ c.if-not-accepted.false)
+work-requires c = few-keys (mesh_of c.args.mesh.now) c.args.edit c.args.keys.now (passed c.decide.result _ (before_work (mesh_of c.args.mesh.now) c.args.edit c.args.keys.now) (search rules) (search rules))
 
-pub returns-then-is_keeps : goal.returns-then-is_keeps
-returns-then-is_keeps c =
-    let x = c.args in
+pub returns-then-eq-clause-left : goal.returns-then-eq-clause-left
+returns-then-eq-clause-left c =
+    let m = mesh_of c.args.mesh.now in
     let w = c.work in
-    let m : Mesh = mesh x.vertices.now x.positions.now x.arcs.now x.edges.now x.faces.now x.counters.now in
-    let keeps = ap is_keeps (sym c.way_of.ensures) ∙ sym c.is_keeps.ensures ∙ c.if-is_keeps.true in
-    in_place_lem m x.edit x.keys.now (step (mesh w.new.vertices w.new.positions w.new.arcs w.new.edges w.new.faces w.new.counters) w.result) (three x.counters.now c.known_three.ensures) c.requires.counters_value (ap accepted (sym c.decide-first.ensures) ∙ sym c.accepted.ensures ∙ c.if-not-accepted.false) keeps w.ensures
+    let keeps : way_of c.args.edit ≡ Keeps = search rules in
+    in_place_lem m c.args.edit c.args.keys.now (step (mesh_of w.new.mesh) (answered w.result)) (three _ (search rules)) c.requires.whole (passed c.decide.result _ (before_work (mesh_of c.args.mesh.now) c.args.edit c.args.keys.now) (search rules) (search rules)) keeps w.ensures.told
 
-pub work_in_room-requires : goal.work_in_room-requires
-work_in_room-requires c =
-    let x = c.args in
-    let z = c.requires in
-    record {
-      begun = record { three = three x.counters.now c.known_three.ensures; whole = z.counters_value; passed = ap accepted (sym c.decide-first.ensures) ∙ sym c.accepted.ensures ∙ c.if-not-accepted.false };
-      same_size = z.same_size;
-    }
+pub work_in_room-requires-clause-begun : goal.work_in_room-requires-clause-begun
+work_in_room-requires-clause-begun c =
+    record { three = three _ (search rules); whole = c.requires.whole; passed = passed c.decide.result _ (before_work (mesh_of c.args.mesh.now) c.args.edit c.args.keys.now) (search rules) (search rules) }
 
-pub returns : goal.returns
-returns c =
-    let x = c.args in
+pub returns-clause-left : goal.returns-clause-left
+returns-clause-left c =
+    let m = mesh_of c.args.mesh.now in
     let g = c.work_in_room in
-    let m : Mesh = mesh x.vertices.now x.positions.now x.arcs.now x.edges.now x.faces.now x.counters.now in
-    let n : Mesh = mesh g.new.vertices g.new.positions g.new.arcs g.new.edges g.new.faces g.new.counters in
-    performed m x.edit x.keys.now (left g.result n) (ap accepted (sym c.decide-first.ensures) ∙ sym c.accepted.ensures ∙ c.if-not-accepted.false) g.ensures
-
-pub shape_of-vertices : goal.shape_of-vertices
-shape_of-vertices c = c.work_in_room.auto.vertices
-
-pub shape_of-positions : goal.shape_of-positions
-shape_of-positions c = c.work_in_room.auto.positions
-
-pub shape_of-arcs : goal.shape_of-arcs
-shape_of-arcs c = c.work_in_room.auto.arcs
-
-pub shape_of-edges : goal.shape_of-edges
-shape_of-edges c = c.work_in_room.auto.edges
-
-pub shape_of-faces : goal.shape_of-faces
-shape_of-faces c = c.work_in_room.auto.faces
-
-pub shape_of-v : goal.shape_of-v
-shape_of-v c = c.work_in_room.auto.v
-
-pub shape_of-p : goal.shape_of-p
-shape_of-p c = c.work_in_room.auto.p
-
-pub shape_of-a : goal.shape_of-a
-shape_of-a c = c.work_in_room.auto.a
-
-pub shape_of-e : goal.shape_of-e
-shape_of-e c = c.work_in_room.auto.e
-
-pub shape_of-f : goal.shape_of-f
-shape_of-f c = c.work_in_room.auto.f
-
-pub shape_of-vertices-then-is_keeps : goal.shape_of-vertices-then-is_keeps
-shape_of-vertices-then-is_keeps c = c.work.auto.vertices
-
-pub shape_of-positions-then-is_keeps : goal.shape_of-positions-then-is_keeps
-shape_of-positions-then-is_keeps c = c.work.auto.positions
-
-pub shape_of-arcs-then-is_keeps : goal.shape_of-arcs-then-is_keeps
-shape_of-arcs-then-is_keeps c = c.work.auto.arcs
-
-pub shape_of-edges-then-is_keeps : goal.shape_of-edges-then-is_keeps
-shape_of-edges-then-is_keeps c = c.work.auto.edges
-
-pub shape_of-faces-then-is_keeps : goal.shape_of-faces-then-is_keeps
-shape_of-faces-then-is_keeps c = c.work.auto.faces
+    performed m c.args.edit c.args.keys.now (left (answered g.result) (mesh_of g.new.mesh)) (passed c.decide.result _ (before_work (mesh_of c.args.mesh.now) c.args.edit c.args.keys.now) (search rules) (search rules)) g.ensures.left

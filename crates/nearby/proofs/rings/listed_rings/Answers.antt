@@ -1,25 +1,13 @@
--- `nearby::rings::listed_rings` meets its contract. The loop keeps that the arcs passed are on their rings. Assumes nothing.
-use mathlib.Core.Path.{sym, ◌∙◌}
-use lib.ListN.{take}
-use Rattle.names.proofs.Loops.{none_yet}
-use Rattle.nearby.proofs.RingTests.{listed_at, listed_more, listed-fails, listed-all}
-use borrow.Author.Rules.{rules}
+-- `nearby::rings::listed_rings` meets its contract: the library's loop over the list. Assumes nothing.
+use Rattle.std.proofs.Common.{rules}
+use Rattle.std.proofs.lemmas.Iterator.{YieldsList-from_slice}
+use Rattle.std.proofs.lemmas.Iterator.Search.{all_from_yields_List}
+use mathlib.Core.Path.{◌∙◌}
+use Rattle.names.proofs.Loops.{list-every}
+use Rattle.nearby.specs.Rings.{ring_at}
 use Rattle.nearby.proofs.rings.listed_rings.Goals as goal
-
-pub loop-k-init : goal.loop-k-init
-loop-k-init c = let a = c.args in (search rules, none_yet (listed_at a.arcs.now (take a.n a.list.now)))
-
-pub returns-then-not-ring_at : goal.returns-then-not-ring_at
-returns-then-not-ring_at c =
-    let a = c.args in
-    listed-fails a.arcs.now a.list.now a.n (search rules) c.loop-k.k (search rules) (sym c.ring_at.ensures ∙ c.if-not-ring_at.true)
-
-pub loop-k-preserved : goal.loop-k-preserved
-loop-k-preserved c =
-    let a = c.args in
-    (search rules, listed_more a.arcs.now a.list.now a.n (search rules) c.loop-k.k (search rules) (sym c.ring_at.ensures ∙ c.if-not-ring_at.false) c.loop-k.invariant.1)
 
 pub returns : goal.returns
 returns c =
     let a = c.args in
-    listed-all a.arcs.now a.list.now a.n (search rules) c.loop-k.k (search rules) (search rules) c.loop-k.invariant.1
+    all_from_yields_List (ring_at a.arcs.now) _ _ _ c.all.ensures.ran (YieldsList-from_slice a.list.now cc) (λ x b q k. search rules) ∙ list-every (ring_at a.arcs.now) a.list.now

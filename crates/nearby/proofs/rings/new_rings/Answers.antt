@@ -8,7 +8,7 @@ use borrow.Author.Rules.{rules}
 use Rattle.nearby.proofs.rings.new_rings.Goals as goal
 
 pub loop-i-init : goal.loop-i-init
-loop-i-init c = let a = c.args in (search rules, none_yet (new_at a.arcs.now a.faces.now a.from))
+loop-i-init c = let a = c.args in none_yet (new_at a.arcs.now a.faces.now a.from)
 
 pub returns-then-not-new_ring : goal.returns-then-not-new_ring
 unfolding new_rings
@@ -19,10 +19,10 @@ returns-then-not-new_ring c =
 pub loop-i-preserved : goal.loop-i-preserved
 loop-i-preserved c =
     let a = c.args in
-    (search rules, one_more (new_at a.arcs.now a.faces.now a.from) c.loop-i.i c.loop-i.invariant.1 (sym c.new_ring.ensures ∙ c.if-not-new_ring.false))
+    one_more (new_at a.arcs.now a.faces.now a.from) c.loop-i.i c.loop-i.invariant (sym c.new_ring.ensures ∙ c.if-not-new_ring.false)
 
 pub returns : goal.returns
 unfolding new_rings
 returns c =
     let a = c.args in
-    all-passed (new_at a.arcs.now a.faces.now a.from) (length a.faces.now) c.loop-i.i (search rules) (search rules) c.loop-i.invariant.1
+    all-passed (new_at a.arcs.now a.faces.now a.from) (length a.faces.now) c.loop-i.i (search rules) (search rules) c.loop-i.invariant

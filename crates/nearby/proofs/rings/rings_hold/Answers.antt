@@ -1,12 +1,12 @@
--- `nearby::rings::rings_hold` meets its contract. Assumes nothing.
-use mathlib.Core.Path.{sym, ◌∙◌}
+-- `nearby::rings::rings_hold` meets its contract. Both tests. Assumes nothing.
+use Rattle.std.proofs.Common.{rules}
 use Rattle.nearby.specs.Rings.{rings_hold}
 use Rattle.nearby.proofs.rings.rings_hold.Goals as goal
 
-pub returns-then-not-listed_rings : goal.returns-then-not-listed_rings
+pub returns-then-listed_rings : goal.returns-then-listed_rings
 unfolding rings_hold
-returns-then-not-listed_rings c = rw (sym c.listed_rings.ensures ∙ c.if-not-listed_rings.true)
+returns-then-listed_rings c = search rules
 
-pub returns : goal.returns
+pub returns-else-listed_rings : goal.returns-else-listed_rings
 unfolding rings_hold
-returns c = rw (sym c.listed_rings.ensures ∙ c.if-not-listed_rings.false) c.new_rings.ensures
+returns-else-listed_rings c = search rules

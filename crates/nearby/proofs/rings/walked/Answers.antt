@@ -1,6 +1,6 @@
 -- `nearby::rings::walked` meets its contract. The loop keeps what is left of the walk. Assumes nothing.
 use Prim.Native.Nat.{◌+◌, ◌-◌}
-use mathlib.Core.Path.{◌≡◌, ap, sym, ◌∙◌}
+use mathlib.Core.Path.{◌≡◌, refl, ap, sym, ◌∙◌}
 use mathlib.Core.Bool.{true}
 use Rattle.nearby.specs.Rings.{held_at, walked_from}
 use Rattle.nearby.proofs.RingTests.{walk-leaves, walk-returns, walk-goes, walk_ends}
@@ -11,28 +11,29 @@ use Rattle.nearby.proofs.rings.walked.Goals.{Else-not-held_at}
 pub returns-then-not-held_at : goal.returns-then-not-held_at
 returns-then-not-held_at c =
     let a = c.args in
-    sym (c.loop-k.invariant.1 ∙ walk-leaves a.arcs.now a.g a.first c.loop-k.k c.loop-k.x (search rules) (sym c.held_at.ensures ∙ c.if-not-held_at.true))
+    sym (c.loop.invariant ∙ walk-leaves a.arcs.now a.g a.first c.loop.counter c.loop.x (search rules) (sym c.held_at.ensures ∙ c.if-not-held_at.true))
 
 -- the arc is on the ring
-held : (c : Else-not-held_at) → held_at c.args.arcs.now c.args.g c.loop-k.x ≡ true
+held : (c : Else-not-held_at) → held_at c.args.arcs.now c.args.g c.loop.x ≡ true
 held c = sym c.held_at.ensures ∙ c.if-not-held_at.false
 
 pub returns-then-x-first : goal.returns-then-x-first
 returns-then-x-first c =
     let a = c.args in
-    sym (c.loop-k.invariant.1 ∙ walk-returns a.arcs.now a.g a.first c.loop-k.k c.loop-k.x (search rules) (held c.before.before) (sym c.cell6-x.ensures ∙ c.if-x-first.true))
+    sym (c.loop.invariant ∙ walk-returns a.arcs.now a.g a.first c.loop.counter c.loop.x (search rules) (held c.before.before) (sym c.cell-x.ensures ∙ c.if-x-first.true))
 
-pub loop-k-preserved : goal.loop-k-preserved
-loop-k-preserved c =
+pub loop-init : goal.loop-init
+loop-init c = refl
+
+pub loop-preserved : goal.loop-preserved
+loop-preserved c =
     let a = c.args in
-    let y = c.cell6-x.ensures in (
-      search rules,
-      c.loop-k.invariant.1
-          ∙ walk-goes a.arcs.now a.g a.first c.loop-k.k c.loop-k.x (search rules) (held c.before.before) (λ e. c.if-x-first.false (y ∙ e))
-          ∙ ap (walked_from a.arcs.now a.g a.first (64 - (c.loop-k.k + 1))) (sym y),
-    )
+    let y = c.cell-x.ensures in
+    c.loop.invariant
+    ∙ walk-goes a.arcs.now a.g a.first c.loop.counter c.loop.x (search rules) (held c.before.before) (λ e. c.if-x-first.false (y ∙ e))
+    ∙ ap (walked_from a.arcs.now a.g a.first (64 - (c.loop.counter + 1))) (sym y)
 
 pub returns : goal.returns
 returns c =
     let a = c.args in
-    sym (c.loop-k.invariant.1 ∙ walk_ends a.arcs.now a.g a.first c.loop-k.k c.loop-k.x (search rules))
+    sym (c.loop.invariant ∙ walk_ends a.arcs.now a.g a.first c.loop.counter c.loop.x (search rules))

@@ -1,12 +1,12 @@
--- `nearby::rows::copy_new` meets its contract. The loop keeps which arcs of new edges are copied; laws of Right. Assumes nothing.
-use Prim.Native.Nat.{◌-◌, ◌≤◌}
+-- `nearby::rows::copy_new` meets its contract. The loop keeps which arcs of new edges are copied, and that nothing else is written. Assumes nothing.
 use mathlib.Core.Path.{◌≡◌}
-use lib.ListN.{length}
+use Rattle.rules.specs.Lent.{mesh_of, SameMesh}
+use Rattle.rules.specs.Mesh.{with_arcs}
 use Rattle.nearby.specs.Rows.{NewCopiedTo}
 use Rattle.nearby.proofs.rows.copy_new.Given as goal
 
 abbrev pub invariant-loop-i : goal.invariant-loop-i
-invariant-loop-i l = (length l.to ≡ length l.initial.to) × ((l.i ≤ length l.edges) × NewCopiedTo l.were l.edges l.from l.initial.to l.to l.i)
-
-abbrev pub decreases-loop-i : goal.decreases-loop-i
-decreases-loop-i l = length l.edges - l.i
+invariant-loop-i l =
+    SameMesh l.initial.mesh l.mesh
+    × ((mesh_of l.mesh ≡ with_arcs (mesh_of l.initial.mesh) l.mesh.arcs.now)
+    × NewCopiedTo l.initial.mesh.edges.now l.room.edges.now l.room.arcs.now l.initial.mesh.arcs.now l.mesh.arcs.now l.i)

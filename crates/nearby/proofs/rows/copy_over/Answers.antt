@@ -1,15 +1,15 @@
-use native.Mathlib.Omega.{arith}
-use mathlib.Core.Path.{sym, ◌∙◌}
-use Rattle.tables.proofs.Lists.{over-same}
+-- `nearby::rows::copy_over` meets its contract: the listed rows and those of new edges, or all. Assumes nothing.
+use mathlib.Core.Path.{ap, ◌∙◌}
+use Rattle.rules.specs.Lent.{mesh_of}
+use Rattle.rules.specs.Mesh.{with_arcs}
 use Rattle.nearby.proofs.Right.{over-all}
 use Rattle.nearby.proofs.rows.copy_over.Goals as goal
 
-pub returns-then-n-gt-LISTED : goal.returns-then-n-gt-LISTED
-returns-then-n-gt-LISTED c =
-    c.copy6.ensures ∙ over-same c.args.from.now c.args.to.now (sym c.requires.edges_len.1)
-
-pub returns : goal.returns
-returns c =
-    let z = c.copy_new in
+pub returns-in-Some-clause-value : goal.returns-in-Some-clause-value
+returns-in-Some-clause-value c =
+    let m = c.args.mesh.now in
+    let r = c.args.room in
     let l = c.copy_listed in
-    over-all c.args.from.now c.args.to.now l.new.to z.new.to c.args.list.now c.args.n c.args.edges.now c.args.were.now l.ensures z.ensures (omega (arith, c.if-n-gt-LISTED.false)) c.requires.edges_len.1 c.requires.differ_near
+    let z = c.copy_new in
+    let all = over-all r.arcs.now m.arcs.now l.new.to z.new.mesh.arcs.now c.in-Some.list.now r.edges.now m.edges.now l.ensures z.ensures.copied c.requires.sizes.1 (rw c.in-Some.is at c.requires.differ_near) in
+    z.ensures.arcs_alone ∙ ap (with_arcs (mesh_of m)) all

@@ -14,4 +14,4 @@ returns-then-arcs-i-eq0 c =
 pub returns : goal.returns
 returns c =
     let a = c.args in
-    (le_refl _, λ seen h. listed-written a.arcs.now a.edges.now seen a.list.now _ a.n a.i (a.i + 1) c.opposite.result (omega (arith, c.known_places.ensures, c.requires.1.1)) refl refl c.opposite.ensures h)
+    (le_refl _, λ seen h. listed-written a.arcs.now a.edges.now seen a.list.now _ a.n a.i (a.i + 1) c.opposite.result (omega (arith, c.told-list, c.requires.1.1)) refl refl c.opposite.ensures h)

@@ -11,6 +11,6 @@ pub returns : goal.returns
 returns c = λ v p e k.
     let s = c.args in
     let m = mesh v p s.arcs.now e s.faces.now k in
-    let f = c.find_key3-f in
+    let f = c.find_key-f in
     let is = c.vertices_of.ensures v p e k ∙ ap (λ g. links_of (ring_vertices m g)) f.ensures in
     marks-held s.seen.now _ (ring_vertices m (find_key s.faces.now s.key)) c.vertices_of.result (search rules) (vertices-few m (find_key s.faces.now s.key)) is c.mark.ensures

@@ -1,32 +1,30 @@
 -- `pairs::near::mark` meets its contract. The loop keeps the marks of as many numbers as it passed. Assumes nothing.
+use Prim.Native.Nat.{◌<◌}
 use native.Mathlib.Omega.{arith}
-use mathlib.Core.Path.{◌≡◌, refl, sym}
-use lib.ListN.{length, get_or, take}
-use lib.Seq.{get_or-take}
+use mathlib.Core.Path.{◌≡◌, refl}
+use lib.ListN.{length, get_or}
+use borrow.Author.Rules.{rules}
 use Rattle.rules.specs.Table.{up_to}
 use Rattle.rules.specs.Mesh.{list_of}
-use Rattle.lists.proofs.Laws.{list-taken}
+use Rattle.lists.proofs.Laws.{list-size}
 use Rattle.pairs.specs.Pairs.{marked_at}
-use Rattle.pairs.proofs.Steps.{marks-more}
-use borrow.Author.Rules.{rules}
+use Rattle.pairs.proofs.Steps.{marks-more, item-is}
 use Rattle.pairs.proofs.near.mark.Goals as goal
 
 pub loop-i-init : goal.loop-i-init
 unfolding up_to
-loop-i-init c = (search rules, refl)
+loop-i-init c = refl
 
 pub loop-i-preserved : goal.loop-i-preserved
 loop-i-preserved c =
-    let n = c.size-n in
     let a = c.args in
-    let here : get_or (take n.result a.list.at) c.loop-i.i 0 ≡ get_or a.list.at c.loop-i.i 0 = get_or-take n.result a.list.at c.loop-i.i 0 (search rules) in
-    (search rules, marks-more (take n.result a.list.at) a.seen.now c.loop-i.seen c.loop-i.i (get_or a.list.at c.loop-i.i 0) c.wide-place.result (sym here) c.wide-place.ensures c.loop-i.invariant.1)
+    let i = c.loop-i.i in
+    let on : i < length (list_of a.list) = omega (arith, list-size a.list c.min-i-end.result (search rules) c.min-i-end.ensures, c.loop-i-test.true) in
+    marks-more (list_of a.list) a.seen.now c.loop-i.seen i (get_or a.list.at i 0) c.wide.result (item-is a.list i on) c.wide.ensures c.loop-i.invariant
 
 pub returns : goal.returns
 unfolding marked_at
 returns c =
-    let n = c.size-n in
     let a = c.args in
-    let all : take n.result a.list.at ≡ list_of a.list = list-taken a.list n.result n.ensures in
-    let end : c.loop-i.i ≡ length (list_of a.list) = omega (arith, n.ensures) in
-    rw (end, all) at c.loop-i.invariant.1
+    let all : c.loop-i.i ≡ length (list_of a.list) = omega (arith, c.loop-i.auto.i-end, c.loop-i-test.false, list-size a.list c.min-i-end.result (search rules) c.min-i-end.ensures) in
+    rw all at c.loop-i.invariant

@@ -1,42 +1,34 @@
--- `script::fields::digits` meets its contract. The loop's invariant: what is read is the digits that are left, after those whose value is at hand, which the limit bounds. Assumes nothing.
-use mathlib.Core.Path.{ap, sym, ◌∙◌}
+-- What is read is the digits that are left, after those whose value is at hand, which the limit bounds.
+use Rattle.std.proofs.Common.{ap, sym, ◌∙◌}
 use Rattle.script.specs.Fields.{digits_of}
-use Rattle.script.proofs.Values.{here-low, here-high, here-next, here-over, here-begin, here_end, here-none}
+use Rattle.script.proofs.Values.{none-is, some-is, here-low, here-high, here-next, here-over, here_end, here-none, digits-begun}
 use borrow.Author.Rules.{rules}
+use Rattle.script.proofs.fields.digits.Goals.{then-c-lt48-via-then-c-lt48, then-c-lt48-via-else-c-lt48+then-c-gt57}
 use Rattle.script.proofs.fields.digits.Goals as goal
 
-pub returns-then-at-end : goal.returns-then-at-end
+pub returns-then-is_empty : goal.returns-then-is_empty
 unfolding digits_of
-returns-then-at-end c = let a = c.args in sym (ap digits_of (here-none a.text.now a.at a.end a.limit (search rules) (search rules)))
+returns-then-is_empty c = sym (ap digits_of (here-none _ _ (none-is _ c.if-is_empty.ensures)))
 
-pub loop-i-init : goal.loop-i-init
-loop-i-init c = let a = c.args in (search rules, search rules, here-begin a.text.now a.at a.end a.limit 0 (search rules) (search rules))
+pub loop-c-init : goal.loop-c-init
+loop-c-init c = (search rules, digits-begun _ _ (some-is _ c.if-is_empty.ensures))
 
 pub returns-then-c-lt48 : goal.returns-then-c-lt48
 unfolding digits_of
 returns-then-c-lt48 c =
-    let a = c.args in
-    sym (ap digits_of (c.loop-i.invariant.2 ∙ here-low a.text.now c.loop-i.i a.end a.limit c.loop-i.value (search rules) (search rules) c.if-c-lt48.true))
-
-pub returns-then-c-gt57 : goal.returns-then-c-gt57
-unfolding digits_of
-returns-then-c-gt57 c =
-    let a = c.args in
-    sym (ap digits_of (c.loop-i.invariant.2 ∙ here-high a.text.now c.loop-i.i a.end a.limit c.loop-i.value (search rules) (search rules) c.if-c-gt57.true))
+    sym (ap digits_of (c.loop-c.invariant.1 ∙ elim c.then-c-lt48.branch [
+      | then-c-lt48-via-then-c-lt48 w ↦ here-low _ _ _ _ c.loop-c-test.true w.if-c-lt48.true
+      | then-c-lt48-via-else-c-lt48+then-c-gt57 w ↦ here-high _ _ _ _ c.loop-c-test.true w.if-c-gt57.true
+    ]))
 
 pub returns-then-value-most : goal.returns-then-value-most
 unfolding digits_of
 returns-then-value-most c =
-    let a = c.args in
-    sym (ap digits_of (c.loop-i.invariant.2 ∙ here-over a.text.now c.loop-i.i a.end a.limit c.loop-i.value (search rules) (search rules) c.if-c-lt48.false c.if-c-gt57.false c.if-value-most.true))
+    sym (ap digits_of (c.loop-c.invariant.1 ∙ here-over _ _ _ _ c.loop-c-test.true c.if-c-lt48.false c.if-c-gt57.false c.if-value-most.true))
 
-pub loop-i-preserved : goal.loop-i-preserved
-loop-i-preserved c =
-    let a = c.args in
-    (search rules, search rules, c.loop-i.invariant.2 ∙ here-next a.text.now c.loop-i.i a.end a.limit c.loop-i.value (search rules) (search rules) c.if-c-lt48.false c.if-c-gt57.false)
+pub loop-c-preserved : goal.loop-c-preserved
+loop-c-preserved c = (search rules, c.loop-c.invariant.1 ∙ here-next _ _ _ _ c.loop-c-test.true c.if-c-lt48.false c.if-c-gt57.false)
 
 pub returns : goal.returns
 unfolding digits_of
-returns c =
-    let a = c.args in
-    sym (ap digits_of (c.loop-i.invariant.2 ∙ here_end a.text.now c.loop-i.i a.end a.limit c.loop-i.value (search rules) (search rules) (search rules)))
+returns c = sym (ap digits_of (c.loop-c.invariant.1 ∙ here_end _ _ _ _ c.loop-c-test.false c.loop-c.invariant.0))

@@ -1,20 +1,15 @@
--- `script::lines::face_remove` meets its contract. By whether there is exactly one number. Assumes nothing.
-use mathlib.Core.Path.{ap, sym, ◌∙◌}
-use lib.ListN.{get_or}
+-- By whether there are exactly one number.
+use Rattle.std.proofs.Common.{ap, sym, ◌∙◌, get_or}
 use Rattle.rules.specs.declared.Edit.TheVariants as E
 use Rattle.rules.specs.Script.{line_of}
 use Rattle.script.specs.Lines.{most_numbers, parsed_of}
 use Rattle.script.proofs.Says.{four-says, four-not}
 use Rattle.script.proofs.lines.face_remove.Goals as goal
 
-pub returns-in-Four : goal.returns-in-Four
-unfolding line_of most_numbers
-returns-in-Four c = λ fs h.
-    let four = sym c.in-Four.is ∙ c.exactly.ensures fs h in
-    c.says.ensures ∙ sym (ap parsed_of (four-says 1 (λ a b c d. E.FaceRemove a) fs c.in-Four.f _ _ _ four))
+pub returns-in_err-f : goal.returns-in_err-f
+unfolding line_of most_numbers parsed_of
+returns-in_err-f c = λ fs h. c.from_residual.ensures ∙ sym (ap parsed_of (four-not 1 (λ l. E.FaceRemove (get_or l 0 0)) fs (c.in_err-f.ensures fs h)))
 
-pub returns-in-Otherwise : goal.returns-in-Otherwise
+pub returns : goal.returns
 unfolding line_of most_numbers
-returns-in-Otherwise c = λ fs h.
-    let four = sym c.in-Otherwise.is ∙ c.exactly.ensures fs h in
-    c.unreadable.ensures ∙ sym (ap parsed_of (four-not 1 (λ l. E.FaceRemove (get_or l 0 0)) fs four))
+returns c = λ fs h. c.says.ensures ∙ sym (ap parsed_of (four-says 1 (λ a b c d. E.FaceRemove a) fs _ (c.in_ok-f.ensures fs h)))

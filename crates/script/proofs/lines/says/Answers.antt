@@ -1,4 +1,4 @@
--- `script::lines::says` meets its contract. The definition, at no keys. Assumes nothing.
+-- The definition, at no keys.
 use mathlib.Core.Path.{refl}
 use Rattle.script.specs.Fields.{padded}
 use Rattle.script.specs.Lines.{parsed_of}

@@ -1,28 +1,28 @@
 -- `script::texts::words_of` meets its contract. The definition at each answer. Assumes nothing.
-use mathlib.Core.Path.{ap, sym}
+use Rattle.std.proofs.Common.{rules}
 use Rattle.script.specs.Texts.{words_of}
 use Rattle.script.proofs.texts.words_of.Goals as goal
 
-pub returns-in-Key : goal.returns-in-Key
+pub returns-in-Ok-Key : goal.returns-in-Ok-Key
 unfolding words_of
-returns-in-Key c = sym (ap words_of c.in-Key.is)
+returns-in-Ok-Key c = search rules
 
-pub returns-in-Arc : goal.returns-in-Arc
+pub returns-in-Ok-Arc : goal.returns-in-Ok-Arc
 unfolding words_of
-returns-in-Arc c = sym (ap words_of c.in-Arc.is)
+returns-in-Ok-Arc c = search rules
 
-pub returns-in-Mark : goal.returns-in-Mark
+pub returns-in-Ok-Mark : goal.returns-in-Ok-Mark
 unfolding words_of
-returns-in-Mark c = sym (ap words_of c.in-Mark.is)
+returns-in-Ok-Mark c = search rules
 
-pub returns-in-Arity : goal.returns-in-Arity
+pub returns-in-Ok-Arity : goal.returns-in-Ok-Arity
 unfolding words_of
-returns-in-Arity c = sym (ap words_of c.in-Arity.is)
+returns-in-Ok-Arity c = search rules
 
-pub returns-in-Done : goal.returns-in-Done
+pub returns-in-Ok-Done : goal.returns-in-Ok-Done
 unfolding words_of
-returns-in-Done c = sym (ap words_of c.in-Done.is)
+returns-in-Ok-Done c = search rules
 
-pub returns-in-Refused : goal.returns-in-Refused
+pub returns-in-Err : goal.returns-in-Err
 unfolding words_of
-returns-in-Refused c = rw c.number_of.ensures (sym (ap words_of c.in-Refused.is))
+returns-in-Err c = search rules

@@ -8,4 +8,4 @@ returns-then-row-eq0 c = rw (eq-eqb _ _ c.if-row-eq0.true)
 
 pub returns : goal.returns
 unfolding edge_name
-returns c = rw (ne_eqb _ _ c.if-row-eq0.false, ← c.cell6.ensures, ← c.cell6-2.ensures) c.pair_name.ensures
+returns c = rw (ne_eqb _ _ c.if-row-eq0.false, ← c.cell.ensures, ← c.cell-2.ensures) c.pair_name.ensures

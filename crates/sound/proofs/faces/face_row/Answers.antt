@@ -2,10 +2,10 @@ use mathlib.Core.Path.{sym, ◌∙◌}
 use Rattle.sound.specs.Tests.{face_test}
 use Rattle.sound.proofs.faces.face_row.Goals as goal
 
-pub returns-then-not-blank3 : goal.returns-then-not-blank3
+pub returns-else-blank : goal.returns-else-blank
 unfolding face_test
-returns-then-not-blank3 c = rw (sym c.blank3.ensures ∙ c.if-not-blank3.true)
+returns-else-blank c = rw (sym c.blank.ensures ∙ c.if-blank.false) c.if-blank.false
 
-pub returns : goal.returns
+pub returns-then-blank : goal.returns-then-blank
 unfolding face_test
-returns c = rw (sym c.blank3.ensures ∙ c.if-not-blank3.false) c.key_below.ensures
+returns-then-blank c = rw (sym c.blank.ensures ∙ c.if-blank.true) c.key_below.ensures

@@ -1,26 +1,11 @@
 use native.Mathlib.Omega.{arith}
+use mathlib.Core.Path.{ap, ◌∙◌}
 use mathlib.Core.Bool.{not}
 use lib.Dec.{eqb}
-use lib.ListN.{get_or}
-use borrow.Author.Tests.{eq-eqb, ne_eqb}
-use Rattle.names.proofs.Loops.{none_yet, one_more, all-passed, one-failed}
-use borrow.Author.Rules.{rules}
+use Rattle.names.proofs.Loops.{none-below}
 use Rattle.sound.proofs.faces.new_source.Goals as goal
-
-pub loop-j-init : goal.loop-j-init
-loop-j-init c = (search rules, none_yet (λ k. not (eqb (get_or c.args.sources.now k 0) c.args.source)))
-
-pub returns-then-sources-j : goal.returns-then-sources-j
-returns-then-sources-j c =
-    let a = c.args in
-    one-failed (λ k. not (eqb (get_or a.sources.now k 0) a.source)) a.n c.loop-j.j (omega arith) (rw (eq-eqb _ _ c.if-sources-j.true))
-
-pub loop-j-preserved : goal.loop-j-preserved
-loop-j-preserved c =
-    let a = c.args in
-    (search rules, one_more (λ k. not (eqb (get_or a.sources.now k 0) a.source)) c.loop-j.j c.loop-j.invariant.1 (rw (ne_eqb _ _ c.if-sources-j.false)))
 
 pub returns : goal.returns
 returns c =
     let a = c.args in
-    all-passed (λ k. not (eqb (get_or a.sources.now k 0) a.source)) a.n c.loop-j.j (omega arith) (omega arith) c.loop-j.invariant.1
+    ap not c.contains.ensures.value ∙ none-below (λ y. eqb y a.source) a.sources.now a.n (omega arith)

@@ -1,59 +1,53 @@
+-- `sound::faces::rings_sound` meets its contract. The loop keeps that the rows gone through pass, that their rings are full, what their arcs leave of
+-- those that hold a face, and whether the keys rise; laws of RingFull. Assumes nothing.
 use native.Mathlib.Omega.{arith}
 use mathlib.Core.Path.{refl, sym, ◌∙◌}
-use mathlib.Core.List.{[]}
-use lib.ListN.{length, get_or}
-use Rattle.rules.specs.Mesh.{mesh}
-use Rattle.proved.proofs.Rows.{true-T, cell_row}
-use Rattle.names.proofs.Loops.{none_yet, one_more, all-passed, one-failed}
-use Rattle.sound.specs.Tests.{face_test}
+use lib.ListN.{length}
+use Rattle.rules.specs.Lent.{mesh_in}
+use Rattle.proved.proofs.Rows.{cell_row}
+use Rattle.names.proofs.Loops.{none_yet, one_more}
 use Rattle.sound.specs.Parts.{faces_sound}
-use Rattle.sound.proofs.Rows.{faces-rows}
-use Rattle.sound.proofs.Named.{risen-none, risen-more, risen-all}
-use Rattle.sound.proofs.RingSums.{bare}
-use Rattle.sound.proofs.RingFull.{bare-full, no_second, going_start, going-unused, going-used, going_end, length-fails, sum-fails}
-use borrow.Author.Rules.{rules}
+use Rattle.sound.specs.Rings.{rings_full}
+use Rattle.sound.proofs.Rows.{face_passes, faces-rows, table-fails, table-passes}
+use Rattle.sound.proofs.Named.{risen-start, risen-after, risen-all}
+use Rattle.sound.proofs.RingFull.{no_second, going_start, going-unused, going-used, going_end, length-fails, sum-fails, told-keys}
 use Rattle.sound.proofs.faces.rings_sound.Goals as goal
-use Rattle.sound.proofs.faces.rings_sound.Goals.{else-faces-i-ne0, then-faces-i-ne0+else-n-eq0+else-n-left}
+use Rattle.sound.proofs.faces.rings_sound.Goals.{then-row-ne0+in_ok-n+in_ok-left, else-row-ne0}
 
 pub loop-i-init : goal.loop-i-init
 loop-i-init c =
-    let a = c.args in
-    (search rules, (going_start (bare a.arcs.now a.faces.now) a.held c.requires, (none_yet (λ j. face_test (get_or a.counters.now 2 0) (get_or a.faces.now j [])), risen-none a.faces.now)))
+    let m = mesh_in c.args.mesh in
+    (going_start m c.args.held c.requires, (none_yet (face_passes m), risen-start m.faces c.start-keys.result c.start-keys.ensures))
 
 pub returns-then-not-face_row : goal.returns-then-not-face_row
 returns-then-not-face_row c =
-    let a = c.args in
-    (λ v p e. rw (faces-rows (mesh v p a.arcs.now e a.faces.now a.counters.now) ∙ sym (one-failed (λ j. face_test (get_or a.counters.now 2 0) (get_or a.faces.now j [])) (length a.faces.now) c.loop-i.i (omega arith) (sym c.face_row.ensures ∙ c.if-not-face_row.true))), λ e. absurd (true-T e))
+    let m = mesh_in c.args.mesh in
+    rw (table-fails (face_passes m) (faces_sound m) (length m.faces) (faces-rows m) c.loop-i.i (omega arith) (sym c.face_row.ensures ∙ c.if-not-face_row.true))
 
-pub returns-then-n-eq0 : goal.returns-then-n-eq0
-returns-then-n-eq0 c =
-    let a = c.args in
-    let m = bare a.arcs.now a.faces.now in
-    let g = c.loop-i.invariant.1.0 in
-    (λ v p e. no_second (faces_sound (mesh v p a.arcs.now e a.faces.now a.counters.now)) _ (length-fails m c.loop-i.left c.loop-i.i g c.linked_length-n.result c.if-faces-i-ne0.true (c.linked_length-n.ensures m refl (cell_row a.faces.now c.loop-i.i 1)) c.if-n-eq0.true ∙ bare-full v p a.arcs.now e a.faces.now a.counters.now), λ e. absurd (true-T e))
+pub returns-in_err-n : goal.returns-in_err-n
+returns-in_err-n c =
+    let m = mesh_in c.args.mesh in
+    let none = rw c.in_err-n.was at (c.linked_length.ensures m refl (cell_row m.faces c.loop-i.i 1)) in
+    rw c.from_residual.ensures (sym (no_second (faces_sound m) (rings_full m) (length-fails m c.loop-i.left c.loop-i.i c.loop-i.invariant.0 0 c.if-row-ne0.true none refl)))
 
-pub returns-then-n-left : goal.returns-then-n-left
-returns-then-n-left c =
-    let a = c.args in
-    let m = bare a.arcs.now a.faces.now in
-    let g = c.loop-i.invariant.1.0 in
-    (λ v p e. no_second (faces_sound (mesh v p a.arcs.now e a.faces.now a.counters.now)) _ (sum-fails m c.loop-i.left c.loop-i.i g c.linked_length-n.result c.if-faces-i-ne0.true (c.linked_length-n.ensures m refl (cell_row a.faces.now c.loop-i.i 1)) c.if-n-eq0.false (omega arith) (omega arith) ∙ bare-full v p a.arcs.now e a.faces.now a.counters.now), λ e. absurd (true-T e))
+pub returns-in_err-left : goal.returns-in_err-left
+returns-in_err-left c =
+    let m = mesh_in c.args.mesh in
+    let some = rw c.in_ok-n.was at (c.linked_length.ensures m refl (cell_row m.faces c.loop-i.i 1)) in
+    rw c.from_residual-in_err-left.ensures (sym (no_second (faces_sound m) (rings_full m) (sum-fails m c.loop-i.left c.loop-i.i c.loop-i.invariant.0 c.in_ok-n.n c.if-row-ne0.true some.1 (λ z. omega (arith, some.0)) (omega arith) (omega (arith, c.in_err-left.ensures)))))
 
 pub loop-i-preserved : goal.loop-i-preserved
 loop-i-preserved c =
-    let a = c.args in
-    let m = bare a.arcs.now a.faces.now in
-    let g = c.loop-i.invariant.1.0 in
-    let s = c.still_rising-rising in
-    let o = c.or_last-last in
-    let row = one_more (λ j. face_test (get_or a.counters.now 2 0) (get_or a.faces.now j [])) c.loop-i.i c.loop-i.invariant.1.1.0 (sym c.face_row.ensures ∙ c.if-not-face_row.false) in
-    let risen = risen-more a.faces.now c.loop-i.i (omega arith) c.loop-i.rising c.loop-i.last c.loop-i.invariant.1.1.1 s.result o.result s.ensures o.ensures in
-    elim c.if-faces-i-ne0.branch [ then-faces-i-ne0+else-n-eq0+else-n-left w ↦ (search rules, (going-used m c.loop-i.left c.loop-i.i g w.linked_length-n.result w.if-faces-i-ne0.true (w.linked_length-n.ensures m refl (cell_row a.faces.now c.loop-i.i 1)) w.if-n-eq0.false c.if-faces-i-ne0.left (omega arith) (omega arith), (row, risen))) | else-faces-i-ne0 w ↦ (search rules, (going-unused m c.loop-i.left c.loop-i.i g c.if-faces-i-ne0.left (omega arith) w.if-faces-i-ne0.false, (row, risen))) ]
+    let m = mesh_in c.args.mesh in
+    let h = c.loop-i.invariant in
+    let row = one_more (face_passes m) c.loop-i.i h.1.0 (sym c.face_row.ensures ∙ c.if-not-face_row.false) in
+    let risen = risen-after m.faces c.loop-i.i (omega arith) c.loop-i.keys c.after-keys.result h.1.1 c.after-keys.ensures in
+    elim c.if-row-ne0.branch [ then-row-ne0+in_ok-n+in_ok-left w ↦ (let some = rw w.in_ok-n.was at (w.linked_length.ensures m refl (cell_row m.faces c.loop-i.i 1)) in (going-used m c.loop-i.left c.loop-i.i h.0 w.in_ok-n.n w.if-row-ne0.true some.1 (λ z. omega (arith, some.0)) c.if-row-ne0.left w.in_ok-left.ensures.0 (w.left-is ∙ w.in_ok-left.ensures.1), (row, risen))) | else-row-ne0 w ↦ (going-unused m c.loop-i.left c.loop-i.i h.0 c.if-row-ne0.left w.left-is w.if-row-ne0.false, (row, risen)) ]
 
 pub returns : goal.returns
 returns c =
-    let a = c.args in
-    let m = bare a.arcs.now a.faces.now in (
-      λ v p e. rw (faces-rows (mesh v p a.arcs.now e a.faces.now a.counters.now) ∙ sym (all-passed (λ j. face_test (get_or a.counters.now 2 0) (get_or a.faces.now j [])) (length a.faces.now) c.loop-i.i (omega arith) (omega arith) c.loop-i.invariant.1.1.0)) (going_end m c.loop-i.left c.loop-i.i c.loop-i.invariant.1.0 (omega arith) (omega arith) ∙ bare-full v p a.arcs.now e a.faces.now a.counters.now),
-      risen-all a.faces.now c.loop-i.i (omega arith) (omega arith) c.loop-i.rising c.loop-i.last c.loop-i.invariant.1.1.1,
-    )
+    let m = mesh_in c.args.mesh in
+    let h = c.loop-i.invariant in
+    let rows = table-passes (face_passes m) (faces_sound m) (length m.faces) (faces-rows m) c.loop-i.i (omega arith) (omega arith) h.1.0 in
+    let full = going_end m c.loop-i.left c.loop-i.i h.0 (omega arith) (omega arith) in
+    rw (c.then_some.ensures, full) (told-keys (rings_full m) (faces_sound m) rows m.faces c.loop-i.keys (risen-all m.faces c.loop-i.i (omega arith) (omega arith) c.loop-i.keys.so c.loop-i.keys.last h.1.1))

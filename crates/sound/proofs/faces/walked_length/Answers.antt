@@ -1,57 +1,58 @@
-use Prim.Native.Nat.{◌-◌}
+-- `sound::faces::walked_length` meets its contract: the loop keeps what is known of the arcs passed, and each way out tells of the ring; laws of
+-- RingLinked. Assumes nothing.
+use Prim.Native.Nat.{ℕ}
 use native.Mathlib.Omega.{arith}
-use mathlib.Core.Path.{sym, ◌∙◌}
-use mathlib.Core.List.{[]}
+use mathlib.Core.Path.{◌≡◌, sym, subst, ◌∙◌}
 use lib.ListN.{get_or}
-use Rattle.sound.proofs.RingLinked.{going_start, going_on, index-some, index_in, row-cell, past-out, row_out, met-out, apart_out, back-out, end-out}
+use Rattle.rules.specs.Table.{cell}
+use Rattle.sound.specs.Rings.{LengthIs}
+use Rattle.sound.proofs.RingLinked.{going_start, going_on, row-none, row-some, past-out, row_out, met-out, apart_out, back-out, end-out}
 use Rattle.sound.proofs.faces.walked_length.Goals as goal
 
 pub loop-n-init : goal.loop-n-init
 loop-n-init c =
     let a = c.args in
-    (going_start a.arcs.now a.first a.f a.sources.now c.cell6-back.result c.cell6-start.result c.known_places.ensures c.cell6-back.ensures c.cell6-start.ensures, (c.cell6-back.ensures, c.cell6-start.ensures))
+    going_start a.arcs.now a.first a.f a.sources.now c.cell-back.result c.cell-start.result c.told-sources c.cell-back.ensures c.cell-start.ensures
 
-pub returns-then-not-has_row : goal.returns-then-not-has_row
-returns-then-not-has_row c =
+pub returns-in_err-row : goal.returns-in_err-row
+returns-in_err-row c =
     let a = c.args in
-    past-out a.arcs.now a.first a.f c.loop-n.sources c.loop-n.n c.loop-n.x c.loop-n.before c.loop-n.end c.loop-n.invariant.0 (sym c.has_row.ensures ∙ c.if-not-has_row.true)
-
-pub overflow_sub-row : goal.overflow_sub-row
-overflow_sub-row c =
-    let a = c.args in
-    index-some a.arcs.now c.loop-n.x c.wide.result c.wide.ensures (sym c.has_row.ensures ∙ c.if-not-has_row.false)
-
-pub bounds-arcs-wide : goal.bounds-arcs-wide
-bounds-arcs-wide c =
-    let a = c.args in
-    index_in a.arcs.now c.loop-n.x c.wide.result c.wide.ensures (sym c.has_row.ensures ∙ c.if-not-has_row.false)
+    λ m ea ef. rw c.from_residual.ensures (past-out a.arcs.now a.first a.f c.loop-n.sources c.loop-n.n c.loop-n.x c.loop-n.before c.loop-n.end c.loop-n.invariant (row-none a.arcs.now c.loop-n.x (sym c.in_err-row.was ∙ c.row_of.ensures)) m ea ef)
 
 pub returns-then-not-ring_row : goal.returns-then-not-ring_row
 returns-then-not-ring_row c =
     let a = c.args in
-    row_out a.arcs.now a.first a.f c.loop-n.sources c.loop-n.n c.loop-n.x c.loop-n.before c.loop-n.end c.loop-n.invariant.0 (get_or a.arcs.now (c.wide.result - 1) []) (row-cell a.arcs.now c.loop-n.x c.wide.result c.wide.ensures (sym c.has_row.ensures ∙ c.if-not-has_row.false)) (sym c.ring_row.ensures ∙ c.if-not-ring_row.true)
+    let r = c.in_ok-row.row in
+    let er : (k : ℕ) → get_or r k 0 ≡ cell a.arcs.now c.loop-n.x k = row-some a.arcs.now c.loop-n.x r (sym c.in_ok-row.was ∙ c.row_of.ensures) in
+    row_out a.arcs.now a.first a.f c.loop-n.sources c.loop-n.n c.loop-n.x c.loop-n.before c.loop-n.end c.loop-n.invariant r er (sym c.ring_row.ensures ∙ c.if-not-ring_row.true)
 
 pub returns-then-not-meets_first : goal.returns-then-not-meets_first
 returns-then-not-meets_first c =
     let a = c.args in
-    met-out a.arcs.now a.first a.f c.loop-n.sources c.loop-n.n c.loop-n.x c.loop-n.before c.loop-n.end c.loop-n.invariant.0 (get_or a.arcs.now (c.wide.result - 1) []) (row-cell a.arcs.now c.loop-n.x c.wide.result c.wide.ensures (sym c.has_row.ensures ∙ c.if-not-has_row.false)) (omega arith) (sym c.ring_row.ensures ∙ c.if-not-ring_row.false) c.cell6-back.result c.cell6-start.result c.loop-n.invariant.1.0 c.loop-n.invariant.1.1 c.if-x-first.true (sym c.meets_first.ensures ∙ c.if-not-meets_first.true)
+    let r = c.in_ok-row.row in
+    let er : (k : ℕ) → get_or r k 0 ≡ cell a.arcs.now c.loop-n.x k = row-some a.arcs.now c.loop-n.x r (sym c.in_ok-row.was ∙ c.row_of.ensures) in
+    met-out a.arcs.now a.first a.f c.loop-n.sources c.loop-n.n c.loop-n.x c.loop-n.before c.loop-n.end c.loop-n.invariant r er (omega arith) (sym c.ring_row.ensures ∙ c.if-not-ring_row.false) c.cell-back.result c.cell-start.result c.cell-back.ensures c.cell-start.ensures c.if-x-first.true (sym c.meets_first.ensures ∙ c.if-not-meets_first.true)
 
 pub returns-then-not-sources_apart : goal.returns-then-not-sources_apart
 returns-then-not-sources_apart c =
     let a = c.args in
-    apart_out a.arcs.now a.first a.f c.loop-n.sources c.loop-n.n c.loop-n.x c.loop-n.before c.loop-n.end c.loop-n.invariant.0 (get_or a.arcs.now (c.wide.result - 1) []) (row-cell a.arcs.now c.loop-n.x c.wide.result c.wide.ensures (sym c.has_row.ensures ∙ c.if-not-has_row.false)) (omega arith) (sym c.ring_row.ensures ∙ c.if-not-ring_row.false) c.cell6-back.result c.cell6-start.result c.loop-n.invariant.1.0 c.loop-n.invariant.1.1 c.if-x-first.true (sym c.sources_apart.ensures ∙ c.if-not-sources_apart.true)
+    let r = c.in_ok-row.row in
+    let er : (k : ℕ) → get_or r k 0 ≡ cell a.arcs.now c.loop-n.x k = row-some a.arcs.now c.loop-n.x r (sym c.in_ok-row.was ∙ c.row_of.ensures) in
+    apart_out a.arcs.now a.first a.f c.loop-n.sources c.loop-n.n c.loop-n.x c.loop-n.before c.loop-n.end c.loop-n.invariant r er (omega arith) (sym c.ring_row.ensures ∙ c.if-not-ring_row.false) c.cell-back.result c.cell-start.result c.cell-back.ensures c.cell-start.ensures c.if-x-first.true (sym c.sources_apart.ensures ∙ c.if-not-sources_apart.true)
 
 pub returns-then-x-first : goal.returns-then-x-first
 returns-then-x-first c =
     let a = c.args in
-    λ m ea ef. c.three_or_none.ensures ∙ back-out a.arcs.now a.first a.f c.loop-n.sources c.loop-n.n c.loop-n.x c.loop-n.before c.loop-n.end c.loop-n.invariant.0 (get_or a.arcs.now (c.wide.result - 1) []) (row-cell a.arcs.now c.loop-n.x c.wide.result c.wide.ensures (sym c.has_row.ensures ∙ c.if-not-has_row.false)) (omega arith) (sym c.ring_row.ensures ∙ c.if-not-ring_row.false) c.cell6-back.result c.cell6-start.result c.loop-n.invariant.1.0 c.loop-n.invariant.1.1 c.if-x-first.true (sym c.meets_first.ensures ∙ c.if-not-meets_first.false) (sym c.sources_apart.ensures ∙ c.if-not-sources_apart.false) m ea ef
+    let r = c.in_ok-row.row in
+    let er : (k : ℕ) → get_or r k 0 ≡ cell a.arcs.now c.loop-n.x k = row-some a.arcs.now c.loop-n.x r (sym c.in_ok-row.was ∙ c.row_of.ensures) in
+    λ m ea ef. subst (λ (z : ℕ). LengthIs z c.three_or_none.result) (back-out a.arcs.now a.first a.f c.loop-n.sources c.loop-n.n c.loop-n.x c.loop-n.before c.loop-n.end c.loop-n.invariant r er (omega arith) (sym c.ring_row.ensures ∙ c.if-not-ring_row.false) c.cell-back.result c.cell-start.result c.cell-back.ensures c.cell-start.ensures c.if-x-first.true (sym c.meets_first.ensures ∙ c.if-not-meets_first.false) (sym c.sources_apart.ensures ∙ c.if-not-sources_apart.false) m ea ef) c.three_or_none.ensures
 
 pub loop-n-preserved : goal.loop-n-preserved
 loop-n-preserved c =
     let a = c.args in
-    (going_on a.arcs.now a.first a.f c.loop-n.sources c.loop-n.n c.loop-n.x c.loop-n.before c.loop-n.end c.loop-n.invariant.0 (get_or a.arcs.now (c.wide.result - 1) []) (row-cell a.arcs.now c.loop-n.x c.wide.result c.wide.ensures (sym c.has_row.ensures ∙ c.if-not-has_row.false)) (omega arith) (sym c.ring_row.ensures ∙ c.if-not-ring_row.false) c.if-x-first.false, c.loop-n.invariant.1)
+    let r = c.in_ok-row.row in
+    let er : (k : ℕ) → get_or r k 0 ≡ cell a.arcs.now c.loop-n.x k = row-some a.arcs.now c.loop-n.x r (sym c.in_ok-row.was ∙ c.row_of.ensures) in
+    going_on a.arcs.now a.first a.f c.loop-n.sources c.loop-n.n c.loop-n.x c.loop-n.before c.loop-n.end c.loop-n.invariant r er (omega arith) (sym c.ring_row.ensures ∙ c.if-not-ring_row.false) c.if-x-first.false
 
 pub returns : goal.returns
-returns c =
-    let a = c.args in
-    end-out a.arcs.now a.first a.f c.loop-n.sources c.loop-n.n c.loop-n.x c.loop-n.before c.loop-n.end c.loop-n.invariant.0 (omega arith)
+returns c = let a = c.args in end-out a.arcs.now a.first a.f c.loop-n.sources c.loop-n.n c.loop-n.x c.loop-n.before c.loop-n.end c.loop-n.invariant (omega arith)

@@ -4,18 +4,17 @@ use Prim.Native.Nat.{◌+◌}
 use native.Mathlib.Omega.{arith}
 use mathlib.Core.Path.{sym, ◌∙◌}
 use Rattle.tables.proofs.Runs.{no_rows, one_more, block-of-eight}
-use borrow.Author.Rules.{rules}
 use Rattle.sound.proofs.holders.block_holds.Goals as goal
 
 pub loop-k-init : goal.loop-k-init
-loop-k-init c = let a = c.args in (search rules, λ e. no_rows _ a.i (a.i + 0) (omega arith))
+loop-k-init c = let a = c.args in λ e. no_rows _ a.i (a.i + 0) (omega arith)
 
 pub loop-k-preserved : goal.loop-k-preserved
 loop-k-preserved c =
     let a = c.args in
-    (search rules, one_more _ a.i c.loop-k.k c.loop-k.all c.holds_some-all.result c.loop-k.invariant.1 (λ e. sym c.holds_some-all.ensures ∙ e))
+    one_more _ a.i c.loop-k.k c.loop-k.all c.holds_some-all.result c.loop-k.invariant (λ e. sym c.holds_some-all.ensures ∙ e)
 
 pub returns : goal.returns
 returns c =
     let a = c.args in
-    λ e. block-of-eight _ a.i c.loop-k.k (omega arith) (omega arith) (c.loop-k.invariant.1 e)
+    λ e. block-of-eight _ a.i c.loop-k.k (omega arith) (omega arith) (c.loop-k.invariant e)

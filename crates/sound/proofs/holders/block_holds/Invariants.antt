@@ -1,13 +1,10 @@
 -- `sound::holders::block_holds` meets its contract. The loop keeps that, with all tests passed so far, every row gone through holds a face; laws
 -- of Runs. Assumes nothing.
-use Prim.Native.Nat.{◌+◌, ◌-◌, ◌≤◌}
+use Prim.Native.Nat.{◌+◌}
 use mathlib.Core.Path.{◌≡◌}
 use mathlib.Core.Bool.{true}
 use Rattle.sound.specs.Parts.{AllHold}
 use Rattle.sound.proofs.holders.block_holds.Given as goal
 
 abbrev pub invariant-loop-k : goal.invariant-loop-k
-invariant-loop-k l = (l.k ≤ 8) × (l.all ≡ true → AllHold l.arcs l.i (l.i + l.k))
-
-abbrev pub decreases-loop-k : goal.decreases-loop-k
-decreases-loop-k l = 8 - l.k
+invariant-loop-k l = l.all ≡ true → AllHold l.arcs l.i (l.i + l.k)

@@ -1,14 +1,12 @@
 use borrow.Author.Tests.{eq-eqb, ne_eqb}
 use Rattle.sound.specs.Tests.{leads_row}
+use Rattle.sound.proofs.links.leads_row.Goals.{then-row-eq0-via-then-row-eq0, then-row-eq0-via-else-row-eq0+then-row-eq0-2}
 use Rattle.sound.proofs.links.leads_row.Goals as goal
 
 pub returns-then-row-eq0 : goal.returns-then-row-eq0
 unfolding leads_row
-returns-then-row-eq0 c = rw (eq-eqb _ _ c.if-row-eq0.true)
-
-pub returns-then-row-eq0-2 : goal.returns-then-row-eq0-2
-unfolding leads_row
-returns-then-row-eq0-2 c = rw (ne_eqb _ _ c.if-row-eq0.false, eq-eqb _ _ c.if-row-eq0-2.true)
+returns-then-row-eq0 c =
+    elim c.then-row-eq0.branch [ then-row-eq0-via-then-row-eq0 w ↦ rw (eq-eqb _ _ w.if-row-eq0.true) | then-row-eq0-via-else-row-eq0+then-row-eq0-2 w ↦ rw (ne_eqb _ _ w.if-row-eq0.false, eq-eqb _ _ w.if-row-eq0-2.true) ]
 
 pub returns : goal.returns
 unfolding leads_row

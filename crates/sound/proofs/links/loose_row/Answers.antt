@@ -7,10 +7,10 @@ pub returns-then-row-ne0 : goal.returns-then-row-ne0
 unfolding loose_row
 returns-then-row-ne0 c = rw (ne_eqb _ _ c.if-row-ne0.true)
 
-pub returns-then-not-next_row : goal.returns-then-not-next_row
+pub returns-else-next_row : goal.returns-else-next_row
 unfolding loose_row
-returns-then-not-next_row c = rw (eq-eqb _ _ c.if-row-ne0.false, sym c.next_row.ensures ∙ c.if-not-next_row.true)
+returns-else-next_row c = rw (eq-eqb _ _ c.if-row-ne0.false, sym c.next_row.ensures ∙ c.if-next_row.false) c.if-next_row.false
 
-pub returns : goal.returns
+pub returns-then-next_row : goal.returns-then-next_row
 unfolding loose_row
-returns c = rw (eq-eqb _ _ c.if-row-ne0.false, sym c.next_row.ensures ∙ c.if-not-next_row.false) c.previous_row.ensures
+returns-then-next_row c = rw (eq-eqb _ _ c.if-row-ne0.false, sym c.next_row.ensures ∙ c.if-next_row.true) c.previous_row.ensures

@@ -2,10 +2,10 @@ use mathlib.Core.Path.{sym, ◌∙◌}
 use Rattle.sound.specs.Tests.{arc_test}
 use Rattle.sound.proofs.passes.arc_row.Goals as goal
 
-pub returns-then-not-blank6 : goal.returns-then-not-blank6
+pub returns-else-blank : goal.returns-else-blank
 unfolding arc_test
-returns-then-not-blank6 c = rw (sym c.blank6.ensures ∙ c.if-not-blank6.true)
+returns-else-blank c = rw (sym c.blank.ensures ∙ c.if-blank.false) c.if-blank.false
 
-pub returns : goal.returns
+pub returns-then-blank : goal.returns-then-blank
 unfolding arc_test
-returns c = rw (sym c.blank6.ensures ∙ c.if-not-blank6.false) c.loose_row.ensures
+returns-then-blank c = rw (sym c.blank.ensures ∙ c.if-blank.true) c.loose_row.ensures

@@ -2,14 +2,14 @@ use mathlib.Core.Path.{sym, ◌∙◌}
 use Rattle.sound.specs.Tests.{edge_test}
 use Rattle.sound.proofs.passes.edge_row.Goals as goal
 
-pub returns-then-not-blank3 : goal.returns-then-not-blank3
+pub returns-else-blank : goal.returns-else-blank
 unfolding edge_test
-returns-then-not-blank3 c = rw (sym c.blank3.ensures ∙ c.if-not-blank3.true)
+returns-else-blank c = rw (sym c.blank.ensures ∙ c.if-blank.false) c.if-blank.false
 
-pub returns-then-not-key_below : goal.returns-then-not-key_below
+pub returns-else-key_below : goal.returns-else-key_below
 unfolding edge_test
-returns-then-not-key_below c = rw (sym c.blank3.ensures ∙ c.if-not-blank3.false, sym c.key_below.ensures ∙ c.if-not-key_below.true)
+returns-else-key_below c = rw (sym c.blank.ensures ∙ c.if-blank.true, sym c.key_below.ensures ∙ c.if-key_below.false) c.if-key_below.false
 
-pub returns : goal.returns
+pub returns-then-key_below : goal.returns-then-key_below
 unfolding edge_test
-returns c = rw (sym c.blank3.ensures ∙ c.if-not-blank3.false, sym c.key_below.ensures ∙ c.if-not-key_below.false) c.edge_arcs.ensures
+returns-then-key_below c = rw (sym c.blank.ensures ∙ c.if-blank.true, sym c.key_below.ensures ∙ c.if-key_below.true) c.edge_arcs.ensures

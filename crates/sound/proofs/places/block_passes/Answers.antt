@@ -3,18 +3,17 @@
 use native.Mathlib.Omega.{arith}
 use mathlib.Core.Path.{◌≡◌}
 use Rattle.sound.proofs.Placing.{no_more, passed-more}
-use borrow.Author.Rules.{rules}
 use Rattle.sound.proofs.places.block_passes.Goals as goal
 
 pub loop-k-init : goal.loop-k-init
-loop-k-init c = let a = c.args in (search rules, λ e. no_more a.vertices.now a.positions.now a.i)
+loop-k-init c = let a = c.args in λ e. no_more a.vertices.now a.positions.now a.i
 
 pub loop-k-preserved : goal.loop-k-preserved
 loop-k-preserved c =
     let a = c.args in
-    (search rules, passed-more a.vertices.now a.positions.now a.i c.loop-k.k c.loop-k.all c.place_row-all.result c.place_row-all.ensures c.loop-k.invariant.1)
+    passed-more a.vertices.now a.positions.now a.i c.loop-k.k c.loop-k.all c.place_row-all.result c.place_row-all.ensures c.loop-k.invariant
 
 pub returns : goal.returns
 returns c =
     let eight : c.loop-k.k ≡ 8 = omega arith in
-    rw eight at c.loop-k.invariant.1
+    rw eight at c.loop-k.invariant

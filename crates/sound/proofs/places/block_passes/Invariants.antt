@@ -1,13 +1,10 @@
 -- `sound::places::block_passes` meets its contract. The loop keeps that, with all tests passed so far, every row gone through passes; laws of
 -- Placing. Assumes nothing.
-use Prim.Native.Nat.{◌+◌, ◌-◌, ◌≤◌}
+use Prim.Native.Nat.{◌+◌}
 use mathlib.Core.Path.{◌≡◌}
 use mathlib.Core.Bool.{true}
 use Rattle.sound.specs.Parts.{Placed}
 use Rattle.sound.proofs.places.block_passes.Given as goal
 
 abbrev pub invariant-loop-k : goal.invariant-loop-k
-invariant-loop-k l = (l.k ≤ 8) × (l.all ≡ true → Placed l.vertices l.positions l.i → Placed l.vertices l.positions (l.i + l.k))
-
-abbrev pub decreases-loop-k : goal.decreases-loop-k
-decreases-loop-k l = 8 - l.k
+invariant-loop-k l = l.all ≡ true → Placed l.vertices l.positions l.i → Placed l.vertices l.positions (l.i + l.k)

@@ -6,14 +6,12 @@ pub returns-then-not-is_sound : goal.returns-then-not-is_sound
 unfolding check_mesh
 returns-then-not-is_sound c = rw (sym c.is_sound.ensures ∙ c.if-not-is_sound.true)
 
-pub returns-then-all_lead : goal.returns-then-all_lead
+pub returns-then-not-all_lead : goal.returns-then-not-all_lead
 unfolding check_mesh finished
-returns-then-all_lead c =
-    let s = sym c.is_sound.ensures ∙ c.if-not-is_sound.false in
-    rw (s, sym c.all_lead.ensures ∙ c.if-all_lead.true)
+returns-then-not-all_lead c =
+    rw (sym c.is_sound.ensures ∙ c.if-not-is_sound.false, sym c.all_lead.ensures ∙ c.if-not-all_lead.true)
 
 pub returns : goal.returns
 unfolding check_mesh finished
 returns c =
-    let s = sym c.is_sound.ensures ∙ c.if-not-is_sound.false in
-    rw (s, sym c.all_lead.ensures ∙ c.if-all_lead.false)
+    rw (sym c.is_sound.ensures ∙ c.if-not-is_sound.false, sym c.all_lead.ensures ∙ c.if-not-all_lead.false)

@@ -1,39 +1,39 @@
--- `tables::answers::number_of` meets its contract. The definition at each refusal. Assumes nothing.
+use Rattle.std.proofs.Common.{rules}
 use Rattle.rules.specs.Step.{number_of}
 use Rattle.tables.proofs.answers.number_of.Goals as goal
 
-pub returns-in-Tables : goal.returns-in-Tables
+pub returns : goal.returns
 unfolding number_of
-returns-in-Tables c = rw c.in-Tables.is
+returns c = search rules
 
-pub returns-in-Argument : goal.returns-in-Argument
+pub returns-2 : goal.returns-2
 unfolding number_of
-returns-in-Argument c = rw c.in-Argument.is
+returns-2 c = search rules
 
-pub returns-in-TopologyMalformed : goal.returns-in-TopologyMalformed
+pub returns-3 : goal.returns-3
 unfolding number_of
-returns-in-TopologyMalformed c = rw c.in-TopologyMalformed.is
+returns-3 c = search rules
 
-pub returns-in-TopologyNotFound : goal.returns-in-TopologyNotFound
+pub returns-4 : goal.returns-4
 unfolding number_of
-returns-in-TopologyNotFound c = rw c.in-TopologyNotFound.is
+returns-4 c = search rules
 
-pub returns-in-TopologyConflict : goal.returns-in-TopologyConflict
+pub returns-5 : goal.returns-5
 unfolding number_of
-returns-in-TopologyConflict c = rw c.in-TopologyConflict.is
+returns-5 c = search rules
 
-pub returns-in-ArityNonUniform : goal.returns-in-ArityNonUniform
+pub returns-6 : goal.returns-6
 unfolding number_of
-returns-in-ArityNonUniform c = rw c.in-ArityNonUniform.is
+returns-6 c = search rules
 
-pub returns-in-NoRoom : goal.returns-in-NoRoom
+pub returns-7 : goal.returns-7
 unfolding number_of
-returns-in-NoRoom c = rw c.in-NoRoom.is
+returns-7 c = search rules
 
-pub returns-in-WouldBreak : goal.returns-in-WouldBreak
+pub returns-8 : goal.returns-8
 unfolding number_of
-returns-in-WouldBreak c = rw c.in-WouldBreak.is
+returns-8 c = search rules
 
-pub returns-in-SamePlace : goal.returns-in-SamePlace
+pub returns-9 : goal.returns-9
 unfolding number_of
-returns-in-SamePlace c = rw c.in-SamePlace.is
+returns-9 c = search rules

@@ -1,27 +1,28 @@
 -- `tables::answers::told` meets its contract. The definition at each answer. Assumes nothing.
+use Rattle.std.proofs.Common.{rules}
 use Rattle.rules.specs.Step.{told}
 use Rattle.tables.proofs.answers.told.Goals as goal
 
-pub returns-in-Key : goal.returns-in-Key
+pub returns-in-Ok-Key : goal.returns-in-Ok-Key
 unfolding told
-returns-in-Key c = rw c.in-Key.is c.reply.ensures
+returns-in-Ok-Key c = search rules
 
-pub returns-in-Arc : goal.returns-in-Arc
+pub returns-in-Ok-Arc : goal.returns-in-Ok-Arc
 unfolding told
-returns-in-Arc c = rw c.in-Arc.is c.reply-in-Arc.ensures
+returns-in-Ok-Arc c = search rules
 
-pub returns-in-Mark : goal.returns-in-Mark
+pub returns-in-Ok-Mark : goal.returns-in-Ok-Mark
 unfolding told
-returns-in-Mark c = rw c.in-Mark.is c.reply-in-Mark.ensures
+returns-in-Ok-Mark c = search rules
 
-pub returns-in-Arity : goal.returns-in-Arity
+pub returns-in-Ok-Arity : goal.returns-in-Ok-Arity
 unfolding told
-returns-in-Arity c = rw c.in-Arity.is c.reply-in-Arity.ensures
+returns-in-Ok-Arity c = search rules
 
-pub returns-in-Done : goal.returns-in-Done
+pub returns-in-Ok-Done : goal.returns-in-Ok-Done
 unfolding told
-returns-in-Done c = rw c.in-Done.is c.reply-in-Done.ensures
+returns-in-Ok-Done c = search rules
 
-pub returns-in-Refused : goal.returns-in-Refused
+pub returns-in-Err : goal.returns-in-Err
 unfolding told
-returns-in-Refused c = rw (c.in-Refused.is, ← c.number_of.ensures) c.reply-in-Refused.ensures
+returns-in-Err c = search rules

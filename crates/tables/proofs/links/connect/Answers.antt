@@ -2,4 +2,4 @@
 use Rattle.tables.proofs.links.connect.Goals as goal
 
 pub returns : goal.returns
-returns c = rw (← c.put6.ensures) c.put6-2.ensures
+returns c = rw (← c.put.ensures) c.put-2.ensures

@@ -6,7 +6,7 @@ pub returns-then-v-eq0 : goal.returns-then-v-eq0
 returns-then-v-eq0 c = row-none _ _ _ c.if-v-eq0.true
 
 pub returns-then-i-ps : goal.returns-then-i-ps
-returns-then-i-ps c = row-past _ _ _ c.if-v-eq0.false c.if-i-ps.true
+returns-then-i-ps c = row_here _ _ _ c.if-v-eq0.false
 
-pub returns : goal.returns
-returns c = row_here _ _ _ c.if-v-eq0.false
+pub returns-else-i-ps : goal.returns-else-i-ps
+returns-else-i-ps c = row-past _ _ _ c.if-v-eq0.false c.if-i-ps.false

@@ -5,8 +5,8 @@ use Rattle.tables.proofs.rows.opposite.Goals as goal
 
 pub returns-then-named-x : goal.returns-then-named-x
 unfolding opposite_of
-returns-then-named-x c = rw (← c.cell6-edge.ensures, ← c.cell3-named.ensures, eq-eqb _ _ c.if-named-x.true) c.cell3.ensures
+returns-then-named-x c = rw (← c.cell-edge.ensures, ← c.cell-named.ensures, eq-eqb _ _ c.if-named-x.true) c.cell.ensures
 
 pub returns : goal.returns
 unfolding opposite_of
-returns c = rw (← c.cell6-edge.ensures, ← c.cell3-named.ensures, ne_eqb _ _ c.if-named-x.false)
+returns c = rw (← c.cell-edge.ensures, ← c.cell-named.ensures, ne_eqb _ _ c.if-named-x.false)

@@ -2,6 +2,6 @@
 use Rattle.tables.specs.Sets.{set_over}
 use Rattle.tables.proofs.sets.copy_set.Goals as goal
 
-pub returns : goal.returns
+pub returns-clause-copied : goal.returns-clause-copied
 unfolding set_over
-returns c = cc
+returns-clause-copied c = cc

@@ -1,24 +1,13 @@
 -- `tables::sets::within_limits` meets its contract. The tests in the order of the definition. Assumes nothing.
-use borrow.Author.Tests.{eq-eqb, ne_eqb, le-leb, lt-leb}
+use borrow.Author.Rules.{rules}
+use Rattle.std.proofs.Common.{tests}
 use Rattle.rules.specs.Sound.{within_limits}
 use Rattle.tables.proofs.sets.within_limits.Goals as goal
 
-pub returns-then-vertices-gt-VERTEX_LIMIT : goal.returns-then-vertices-gt-VERTEX_LIMIT
+pub returns-then-mesh-2 : goal.returns-then-mesh-2
 unfolding within_limits
-returns-then-vertices-gt-VERTEX_LIMIT c = λ k. rw (lt-leb _ _ c.if-vertices-gt-VERTEX_LIMIT.true)
+returns-then-mesh-2 c = search (rules, tests)
 
-pub returns-then-positions-vertices : goal.returns-then-positions-vertices
+pub returns-else-mesh-2 : goal.returns-else-mesh-2
 unfolding within_limits
-returns-then-positions-vertices c = λ k. rw (le-leb _ _ c.if-vertices-gt-VERTEX_LIMIT.false, ne_eqb _ _ c.if-positions-vertices.true)
-
-pub returns-then-edges-gt-EDGE_LIMIT : goal.returns-then-edges-gt-EDGE_LIMIT
-unfolding within_limits
-returns-then-edges-gt-EDGE_LIMIT c = λ k. rw (le-leb _ _ c.if-vertices-gt-VERTEX_LIMIT.false, eq-eqb _ _ c.if-positions-vertices.false, lt-leb _ _ c.if-edges-gt-EDGE_LIMIT.true)
-
-pub returns-then-arcs-edges : goal.returns-then-arcs-edges
-unfolding within_limits
-returns-then-arcs-edges c = λ k. rw (le-leb _ _ c.if-vertices-gt-VERTEX_LIMIT.false, eq-eqb _ _ c.if-positions-vertices.false, le-leb _ _ c.if-edges-gt-EDGE_LIMIT.false, ne_eqb _ _ c.if-arcs-edges.true)
-
-pub returns : goal.returns
-unfolding within_limits
-returns c = λ k. rw (le-leb _ _ c.if-vertices-gt-VERTEX_LIMIT.false, eq-eqb _ _ c.if-positions-vertices.false, le-leb _ _ c.if-edges-gt-EDGE_LIMIT.false, eq-eqb _ _ c.if-arcs-edges.false)
+returns-else-mesh-2 c = search (rules, tests)

@@ -2,6 +2,6 @@
 use Rattle.rules.specs.Call.{zeroed}
 use Rattle.tables.proofs.sets.zero_set.Goals as goal
 
-pub returns : goal.returns
+pub returns-clause-zeroed : goal.returns-clause-zeroed
 unfolding zeroed
-returns c = cc
+returns-clause-zeroed c = cc

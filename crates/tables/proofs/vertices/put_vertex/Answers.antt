@@ -4,4 +4,4 @@ use Rattle.tables.proofs.vertices.put_vertex.Goals as goal
 
 pub returns : goal.returns
 unfolding put_vertex
-returns c = λ a e f k. rw (← c.one_up-first.ensures, ← c.put_row2.ensures, ← c.put_position.ensures)
+returns c = λ a e f k. rw (← c.one_up-first.ensures, ← c.put_row.ensures, ← c.put_position.ensures)

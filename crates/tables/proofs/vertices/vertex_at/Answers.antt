@@ -4,4 +4,4 @@ use Rattle.tables.proofs.vertices.vertex_at.Goals as goal
 
 pub returns : goal.returns
 unfolding vertex_at
-returns c = λ a e f k. rw (← c.cell2.ensures, ← c.key_in-key.ensures, ← c.position_at-position.ensures, ← c.cell2-leading.ensures)
+returns c = λ a e f k. rw (← c.cell.ensures, ← c.position_at-position.ensures, ← c.cell-leading.ensures) cc

@@ -1,32 +1,31 @@
 -- `verdicts::decide::decide` meets its contract. Assumes nothing.
-use mathlib.Core.Path.{sym, ◌∙◌}
-use mathlib.Core.Bool.{true, false}
-use Rattle.rules.specs.Mesh.{mesh}
-use Rattle.proved.proofs.Rows.{true-T}
-use Rattle.file.proofs.Whole.{offsets_are}
+use mathlib.Core.Path.{sym, ap, ◌∙◌}
+use Rattle.rules.specs.Lent.{mesh_in}
+use Rattle.rules.specs.Script.{Text}
+use Rattle.file.specs.File.{contents_in, tables_hold}
+use Rattle.fills.specs.Fills.{storable}
+use Rattle.verdicts.specs.Refusals.{number_of}
+use Rattle.verdicts.proofs.Numbered.{found-or-12}
 use Rattle.verdicts.proofs.Taking.{not-long, not-placed, too_many, held-or-12}
 use Rattle.verdicts.proofs.decide.decide.Goals as goal
 
-pub returns-then-not-length_fits : goal.returns-then-not-length_fits
-returns-then-not-length_fits c = not-long (mesh c.args.vertices.now c.args.positions.now c.args.arcs.now c.args.edges.now c.args.faces.now c.args.counters.now) c.args.text.now (sym c.length_fits.ensures ∙ c.if-not-length_fits.true)
+pub returns-then-not-length_fits-clause-first : goal.returns-then-not-length_fits-clause-first
+returns-then-not-length_fits-clause-first c = not-long (mesh_in c.args.mesh) c.args.text.now (sym c.length_fits.ensures ∙ c.if-not-length_fits.true)
 
-pub in_place-requires : goal.in_place-requires
-in_place-requires c = true-T (sym c.length_fits.ensures ∙ c.if-not-length_fits.false)
+pub returns-in_default-clause-first : goal.returns-in_default-clause-first
+returns-in_default-clause-first c =
+    not-placed (mesh_in c.args.mesh) c.args.text.now (sym c.length_fits.ensures ∙ c.if-not-length_fits.false) (sym c.in_default.ensures.whole)
 
-pub returns-then-not-in_place : goal.returns-then-not-in_place
-returns-then-not-in_place c = not-placed (mesh c.args.vertices.now c.args.positions.now c.args.arcs.now c.args.edges.now c.args.faces.now c.args.counters.now) c.args.text.now (sym c.length_fits.ensures ∙ c.if-not-length_fits.false) (sym c.in_place.ensures ∙ c.if-not-in_place.true)
+pub returns-then-not-tables_hold-clause-first : goal.returns-then-not-tables_hold-clause-first
+returns-then-not-tables_hold-clause-first c =
+    let m = mesh_in c.args.mesh in
+    too_many m c.args.text.now (sym c.length_fits.ensures ∙ c.if-not-length_fits.false) (sym c.in-Some.ensures.whole)
+    (ap (λ (t : Text). tables_hold m (contents_in t)) (sym c.in-Some.ensures.same) ∙ sym c.tables_hold.ensures ∙ c.if-not-tables_hold.true)
 
-pub tables_hold-requires : goal.tables_hold-requires
-tables_hold-requires c = record { bytes = c.known_bytes.ensures; fits = true-T (sym c.length_fits.ensures ∙ c.if-not-length_fits.false); stands = offsets_are c.args.text.now (true-T (sym c.in_place.ensures ∙ c.if-not-in_place.false)) }
-
-pub returns-then-not-tables_hold : goal.returns-then-not-tables_hold
-returns-then-not-tables_hold c = too_many (mesh c.args.vertices.now c.args.positions.now c.args.arcs.now c.args.edges.now c.args.faces.now c.args.counters.now) c.args.text.now (sym c.length_fits.ensures ∙ c.if-not-length_fits.false) (sym c.in_place.ensures ∙ c.if-not-in_place.false) (sym (c.tables_hold.ensures c.args.positions.now c.args.counters.now) ∙ c.if-not-tables_hold.true)
-
-pub can_hold-requires : goal.can_hold-requires
-can_hold-requires c = record { bytes = c.known_bytes.ensures; fits = true-T (sym c.length_fits.ensures ∙ c.if-not-length_fits.false); stands = offsets_are c.args.text.now (true-T (sym c.in_place.ensures ∙ c.if-not-in_place.false)) }
-
-pub returns-then-not-can_hold : goal.returns-then-not-can_hold
-returns-then-not-can_hold c = held-or-12 (mesh c.args.vertices.now c.args.positions.now c.args.arcs.now c.args.edges.now c.args.faces.now c.args.counters.now) c.args.text.now false (sym c.length_fits.ensures ∙ c.if-not-length_fits.false) (sym c.in_place.ensures ∙ c.if-not-in_place.false) (sym (c.tables_hold.ensures c.args.positions.now c.args.counters.now) ∙ c.if-not-tables_hold.false) (sym c.can_hold.ensures ∙ c.if-not-can_hold.true)
-
-pub returns : goal.returns
-returns c = held-or-12 (mesh c.args.vertices.now c.args.positions.now c.args.arcs.now c.args.edges.now c.args.faces.now c.args.counters.now) c.args.text.now true (sym c.length_fits.ensures ∙ c.if-not-length_fits.false) (sym c.in_place.ensures ∙ c.if-not-in_place.false) (sym (c.tables_hold.ensures c.args.positions.now c.args.counters.now) ∙ c.if-not-tables_hold.false) (sym c.can_hold.ensures ∙ c.if-not-can_hold.false)
+pub returns-clause-first : goal.returns-clause-first
+returns-clause-first c =
+    let m = mesh_in c.args.mesh in
+    let few = ap (λ (t : Text). tables_hold m (contents_in t)) (sym c.in-Some.ensures.same) ∙ sym c.tables_hold.ensures ∙ c.if-not-tables_hold.false in
+    let held = ap (λ (t : Text). storable (contents_in t)) (sym c.in-Some.ensures.same) ∙ sym c.of-2.ensures.holds in
+    ap number_of c.ok_or.ensures.value ∙ found-or-12 c.of-2.result
+    ∙ held-or-12 m c.args.text.now _ (sym c.length_fits.ensures ∙ c.if-not-length_fits.false) (sym c.in-Some.ensures.whole) few held

@@ -1,38 +1,35 @@
--- `verdicts::settle::read_in_room` meets its contract. Assumes nothing.
-use mathlib.Core.Path.{ap, sym, ◌∙◌}
-use Rattle.rules.specs.Mesh.{Mesh, mesh}
+-- `verdicts::settle::read_in_room` meets its contract: refused first, or judged. Assumes nothing.
+use mathlib.Core.Path.{◌≡◌, sym, ap, ◌∙◌}
+use borrow.Author.Rules.{rules}
+use Rattle.rules.specs.Mesh.{Mesh}
+use Rattle.rules.specs.Lent.{mesh_in, mesh_of}
 use Rattle.proved.proofs.Rows.{true-T}
-use Rattle.file.proofs.Whole.{offsets_are}
-use Rattle.verdicts.specs.Verdicts.{taken}
-use Rattle.verdicts.proofs.Taking.{no-refusal, refused-first, judged-is}
+use Rattle.bodies.proofs.Numbers.{all-bytes}
+use Rattle.verdicts.specs.Verdicts.{first_number, taken, judged}
+use Rattle.verdicts.specs.Refusals.{number_of}
+use Rattle.verdicts.proofs.Numbered.{refusal-not-none}
+use Rattle.verdicts.proofs.Taking.{Passed, no-refusal, refused-first, judged-is}
 use Rattle.verdicts.proofs.settle.read_in_room.Goals as goal
 
-pub returns-then-first-ne0 : goal.returns-then-first-ne0
-returns-then-first-ne0 c =
-    let x = c.args in
-    let m : Mesh = mesh x.vertices.now x.positions.now x.arcs.now x.edges.now x.faces.now x.counters.now in
-    ap (λ n. taken n m) c.decide-first.ensures
-    ∙ refused-first m x.text.now c.known_bytes.ensures (λ e. c.if-first-ne0.true (c.decide-first.ensures ∙ e))
+pub returns-in_err-file-clause-taken : goal.returns-in_err-file-clause-taken
+returns-in_err-file-clause-taken c =
+    let m = mesh_of c.args.mesh.now in
+    let t = c.args.text.now in
+    let told : number_of c.from_residual.result ≡ first_number (mesh_in c.view.result) t = search rules in
+    let first : number_of c.from_residual.result ≡ first_number m t = told ∙ ap (λ (q : Mesh). first_number q t) c.view.ensures in
+    let some : number_of c.from_residual.result ≡ 0 → ⊥ = search (rules, refusal-not-none) in
+    ap (λ (n : _). taken n m) first ∙ refused-first m t (all-bytes t (search rules)) (λ e. some (first ∙ e))
 
-pub settle-requires : goal.settle-requires
-settle-requires c =
-    let x = c.args in
-    let q = no-refusal (mesh x.vertices.now x.positions.now x.arcs.now x.edges.now x.faces.now x.counters.now) x.text.now (sym c.decide-first.ensures ∙ c.if-first-ne0.false) in
-    let placed = true-T q.placed in
-    record {
-      storable = (
-        record {
-          whole = record { laid = record { bytes = c.known_bytes.ensures; fits = true-T q.long; stands = offsets_are x.text.now placed }; in_place = placed };
-          rows = true-T q.held;
-        },
-        true-T q.few,
-      );
-      counters_value = c.requires.counters_value;
-      same_size = c.requires.same_size;
-    }
+pub settle-requires-clause-few : goal.settle-requires-clause-few
+settle-requires-clause-few c =
+    let m = mesh_of c.args.mesh.now in
+    let passed : Passed m c.args.text.now =
+    no-refusal m c.args.text.now (sym (c.in_ok-file.ensures.first ∙ ap (λ (q : Mesh). first_number q c.args.text.now) c.view.ensures)) in
+    rw c.in_ok-file.ensures.same (true-T passed.few)
 
-pub returns : goal.returns
-returns c =
-    let x = c.args in
-    let m : Mesh = mesh x.vertices.now x.positions.now x.arcs.now x.edges.now x.faces.now x.counters.now in
-    c.settle.ensures ∙ judged-is m x.text.now (no-refusal m x.text.now (sym c.decide-first.ensures ∙ c.if-first-ne0.false))
+pub returns-clause-taken : goal.returns-clause-taken
+returns-clause-taken c =
+    let m = mesh_of c.args.mesh.now in
+    let passed : Passed m c.args.text.now =
+    no-refusal m c.args.text.now (sym (c.in_ok-file.ensures.first ∙ ap (λ (q : Mesh). first_number q c.args.text.now) c.view.ensures)) in
+    c.settle.ensures.judged ∙ ap (judged m) c.in_ok-file.ensures.same ∙ judged-is m c.args.text.now passed

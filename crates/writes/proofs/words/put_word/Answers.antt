@@ -1,17 +1,7 @@
--- The lowest byte first. Assumes nothing.
-use native.Mathlib.Omega.{arith}
-use lib.ListN.{length-set}
-use Rattle.writes.proofs.Texts.{word-is}
+use mathlib.Core.Path.{ap, ◌∙◌}
+use Rattle.writes.specs.Writing.{put_text}
+use Rattle.writes.proofs.Texts.{four-bytes}
 use Rattle.writes.proofs.words.put_word.Goals as goal
 
-pub bounds-out-at-2 : goal.bounds-out-at-2
-bounds-out-at-2 c = simp length-set (omega arith)
-
-pub bounds-out-at-3 : goal.bounds-out-at-3
-bounds-out-at-3 c = simp length-set (omega arith)
-
-pub bounds-out-at-4 : goal.bounds-out-at-4
-bounds-out-at-4 c = simp length-set (omega arith)
-
 pub returns : goal.returns
-returns c = word-is _ _ _
+returns c = c.put_bytes.ensures ∙ ap (put_text c.args.out.now c.args.at) (c.to_le_bytes.ensures ∙ four-bytes c.args.n)

@@ -1,0 +1,68 @@
+// The line that is read, held from chunk to chunk until its newline comes: its first 513 bytes.
+// It carries document 01's "one line a call, at most 512 bytes before the newline".
+
+ghost use Rattle.std.specs.Prelude.{◌≡◌, ◌≤◌};
+ghost use Rattle.script.specs.Texts.{Written, written};
+ghost use Rattle.runs.specs.Gather.{holding, held_in, none_held};
+ghost use Rattle.runs.specs.Whole.{fresh};
+
+use crate::HELD;
+use std::marker::Model;
+
+// Kept: there is no heap: the bytes stand in an array, with how many of them count.
+#[derive(Drop)]
+pub struct Held {
+    bytes: [u8; HELD],
+    len: usize,
+}
+
+impl Model for Held {
+    ghost Value = { Written };
+
+    ghost view = { λ h. written h.bytes h.len };
+
+    ghost invariant = { λ h. h.len ≤ 513 };
+}
+
+impl Held {
+    // No byte.
+    pub fn new() -> Self
+        ensures { result ≡ fresh }
+    {
+        Held {
+            bytes: [0; HELD],
+            len: 0,
+        }
+    }
+
+    // How many bytes are held.
+    pub fn len(&self) -> usize
+        ensures { result ≡ self.now.next }
+    {
+        self.len
+    }
+
+    // The bytes that are held.
+    pub fn text(&self) -> &[u8]
+        ensures { result.now ≡ held_in self.now }
+    {
+        &self.bytes[..self.len]
+    }
+
+    // One byte more, which is held unless 513 are.
+    pub fn push(&mut self, b: u8)
+        ensures { self.new ≡ holding self.old b }
+    {
+        if self.len < HELD {
+            self.bytes[self.len] = b;
+            self.len += 1;
+        }
+    }
+
+    // The line ended.
+    pub fn clear(&mut self)
+        ensures { self.new ≡ none_held self.old }
+    {
+        self.len = 0;
+    }
+}

@@ -1,9 +1,0 @@
--- `script::lines::unreadable` meets its contract. The definition. Assumes nothing.
-use mathlib.Core.Path.{refl}
-use Rattle.script.specs.Fields.{padded}
-use Rattle.script.specs.Lines.{parsed_of}
-use Rattle.script.proofs.lines.unreadable.Goals as goal
-
-pub returns : goal.returns
-unfolding parsed_of padded
-returns c = refl

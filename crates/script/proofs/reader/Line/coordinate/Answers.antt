@@ -1,0 +1,10 @@
+-- What the field at the place says; none where no field is left.
+use Rattle.std.proofs.Common.{◌∙◌}
+use Rattle.script.proofs.Left.{coordinate-past, coordinate-here}
+use Rattle.script.proofs.reader.Line.coordinate.Goals as goal
+
+pub returns-in_err-field-clause-value : goal.returns-in_err-field-clause-value
+returns-in_err-field-clause-value c = c.from_residual.ensures ∙ coordinate-past _ _ c.in_err-field.ensures.value
+
+pub returns-clause-value : goal.returns-clause-value
+returns-clause-value c = c.coordinate.ensures ∙ coordinate-here _ _ _ c.in_ok-field.ensures.value.0 c.in_ok-field.ensures.value.1
