@@ -10,8 +10,7 @@ pub loop-i-preserved : goal.loop-i-preserved
 loop-i-preserved g c =
     let a = c.args in
     let i = c.loop-i.i in
-    let row = c.index-from-i in
-    (
+    let row = c.index-from-i in (
       simp length-set (search rules),
       search rules,
       ap (λ t. set t i row.result) c.loop-i.invariant.2

@@ -13,8 +13,7 @@ returns-then-chunk-i-eq-NEWLINE c =
 pub loop-i-preserved : goal.loop-i-preserved
 loop-i-preserved c =
     let chunk = c.args.chunk.now in
-    let i = c.loop-i.i in
-    (
+    let i = c.loop-i.i in (
       omega (arith, c.loop-i.invariant.0),
       omega (arith, c.loop-i.invariant.0, c.loop-i-test.true, length-drop c.args.from chunk),
       c.loop-i.invariant.2
