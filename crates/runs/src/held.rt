@@ -38,6 +38,14 @@ impl Held {
         }
     }
 
+    // The first bytes of an array.
+    pub fn of(bytes: [u8; HELD], len: usize) -> Self
+        requires { len ≤ 513 }
+        ensures { result ≡ written bytes len }
+    {
+        Held { bytes, len }
+    }
+
     // How many bytes are held.
     pub fn len(&self) -> usize
         ensures { result ≡ self.now.next }
