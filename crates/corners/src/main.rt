@@ -6,7 +6,8 @@ mod asked; // asked.rt: the lines of each corner, with their answers
 mod texts; // texts.rt: the texts of a line and of an answer
 
 ghost use Rattle.std.specs.Prelude.{◌≤◌, length};
-ghost use Rattle.rules.specs.Lent.{SameMesh};
+ghost use Rattle.rules.specs.Lent.{SameMesh, mesh_of};
+ghost use Rattle.runs.specs.Sizes.{ScriptSizes};
 
 use asked::{Asked, Corner};
 use rules::{MeshMut, MeshRef};
@@ -66,6 +67,7 @@ fn ask(rt: &impl Print, mesh: &mut MeshMut, a: Asked) -> io::Result<bool>
 
 // All lines of a corner, up to the first that is answered otherwise.
 fn ask_all(rt: &impl Print, mesh: &mut MeshMut, corner: Corner) -> io::Result<bool>
+    requires { ScriptSizes (mesh_of mesh.old) }
     ensures { SameMesh mesh.old mesh.new }
 {
     for at in 0..asked::lines_of(corner) {

@@ -16,7 +16,7 @@ use rules::{ArcRow, Links, MeshMut, MeshRef, RING};
 use tables::rows;
 
 // The list of arcs, and where unused rows may be looked for.
-#[derive(Drop)]
+#[derive(Clone, Copy)]
 pub struct Around {
     pub near: Nearby,
     pub from: Lowest,

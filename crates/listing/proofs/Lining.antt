@@ -9,7 +9,7 @@ use lib.Seq.{take-suc}
 use lib.Ieee.{Float}
 use Rattle.rules.specs.Table.{Table}
 use Rattle.rules.specs.Mesh.{Mesh, mesh}
-use Rattle.rules.specs.Records.{vertex_record, arc_record, edge_record, face_record, used_from, in_order, key_before, arc_before, records}
+use Rattle.rules.specs.Records.{arc_name, vertex_record, arc_record, edge_record, face_record, used_from, in_order, key_before, arc_before, records}
 use Rattle.rules.specs.Script.{Text, newline}
 use Rattle.rules.specs.Dump.{vertex_line, arc_line, edge_line, face_line, lines_by, records_text}
 use Rattle.script.specs.Texts.{written, wrote}
@@ -84,3 +84,22 @@ unfolding records_text counters_text
 all-records vertices positions arcs edges faces v e f =
     let m = mesh vertices positions arcs edges faces (v ∷ e ∷ f ∷ []) in
     rw (vertices-text m, arcs-text m, edges-text m, faces-text m) (unfold records in refl)
+
+-- the lines of a kind read no counters
+kind_bare : (vertices : Table) (positions : List (List Float)) (arcs edges faces : Table) (counters : List ℕ) (kind : Kind)
+    → kind_text (mesh vertices positions arcs edges faces counters) kind ≡ kind_text (mesh vertices positions arcs edges faces []) kind
+unfolding kind_text links_of used_links table_of before_of line_of vertex_record arc_record edge_record face_record arc_name arc_before
+kind_bare vertices positions arcs edges faces counters Vertices = refl
+kind_bare vertices positions arcs edges faces counters Arcs = refl
+kind_bare vertices positions arcs edges faces counters Edges = refl
+kind_bare vertices positions arcs edges faces counters Faces = refl
+
+-- so the records' text is that of the mesh without them, and the counters
+pub all-records-bare : (vertices : Table) (positions : List (List Float)) (arcs edges faces : Table) (v e f : ℕ)
+    → records_text (records (mesh vertices positions arcs edges faces (v ∷ e ∷ f ∷ [])))
+    ≡ kind_text (mesh vertices positions arcs edges faces []) Vertices
+    ++ (kind_text (mesh vertices positions arcs edges faces []) Arcs
+    ++ (kind_text (mesh vertices positions arcs edges faces []) Edges ++ (kind_text (mesh vertices positions arcs edges faces []) Faces ++ counters_text v e f)))
+all-records-bare vertices positions arcs edges faces v e f =
+    let same = kind_bare vertices positions arcs edges faces (v ∷ e ∷ f ∷ []) in
+    all-records vertices positions arcs edges faces v e f ∙ rw (same Vertices, same Arcs, same Edges, same Faces)

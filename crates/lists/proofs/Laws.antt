@@ -46,6 +46,11 @@ pub item-past : (l : Links) (i : ℕ) → length l.at ≡ 64 → min l.len 64 �
 unfolding list_of
 item-past l i size q = get_or-eq_default (take l.len l.at) 0 (omega (arith, size, length-take l.len l.at))
 
+-- past its end, of however many places
+pub item-past-end : (l : Links) (i : ℕ) → l.len ≤ i → get_or (list_of l) i 0 ≡ 0
+unfolding list_of
+item-past-end l i q = get_or-eq_default (take l.len l.at) 0 (omega (arith, length-take l.len l.at))
+
 -- a place before its end, by how many it has
 pub place_in : (l : Links) (n i : ℕ) → n ≡ length (list_of l) → i < n → get_or l.at i 0 ≡ get_or (list_of l) i 0
 place_in l n i e q = sym (get_or-take n l.at i 0 q) ∙ ap (λ (o : List ℕ). get_or o i 0) (list-taken l n e)

@@ -3,8 +3,9 @@
 
 #![tactic(auto)]
 
-ghost use Rattle.rules.specs.Lent.{mesh_in};
+ghost use Rattle.rules.specs.Lent.{SameMesh, mesh_in, mesh_of};
 ghost use Rattle.listing.specs.Lines.{Listable};
+ghost use Rattle.runs.specs.Sizes.{ScriptSizes};
 
 use listing::listed;
 use orders::Kind;
@@ -12,7 +13,7 @@ use rules::{MeshMut, MeshRef};
 use runs::{ANSWERS, Tables};
 use script::dumps;
 use std::io;
-use std::io::Write;
+use std::io::{Read, Write};
 
 // All records of a kind.
 fn write_kind<W: Write>(
@@ -47,6 +48,21 @@ fn write_records<W: Write>(writer: &mut W, mesh: MeshRef, out: &mut [u8; ANSWERS
     write_counters(writer, mesh.counters, out)
 }
 
+// A whole script, all records, and the last line.
+fn run<R: Read, W: Write>(
+    reader: &mut R,
+    writer: &mut W,
+    mesh: &mut MeshMut,
+    out: &mut [u8; ANSWERS],
+) -> io::Result<()>
+    requires { ScriptSizes (mesh_of mesh.old) }
+    ensures { SameMesh mesh.old mesh.new }
+{
+    input::run_script(reader, writer, mesh, out)?;
+    write_records(writer, mesh.view(), out)?;
+    input::write_end(writer, mesh.view(), out)
+}
+
 fn main(rt: HostRuntime) -> io::Result<()> {
     let mut reader = rt.stdin();
     let mut writer = rt.stdout();
@@ -60,15 +76,5 @@ fn main(rt: HostRuntime) -> io::Result<()> {
         faces: &mut tables.faces,
         counters: &mut tables.counters,
     };
-    input::run_script(&mut reader, &mut writer, &mut mesh, &mut out)?;
-    let mesh = MeshRef {
-        vertices: &tables.vertices,
-        positions: &tables.positions,
-        arcs: &tables.arcs,
-        edges: &tables.edges,
-        faces: &tables.faces,
-        counters: &tables.counters,
-    };
-    write_records(&mut writer, mesh, &mut out)?;
-    input::write_end(&mut writer, mesh, &mut out)
+    run(&mut reader, &mut writer, &mut mesh, &mut out)
 }

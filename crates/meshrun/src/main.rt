@@ -3,9 +3,27 @@
 
 #![tactic(auto)]
 
-use rules::{MeshMut, MeshRef};
+ghost use Rattle.rules.specs.Lent.{SameMesh, mesh_of};
+ghost use Rattle.runs.specs.Sizes.{ScriptSizes};
+
+use rules::MeshMut;
 use runs::{ANSWERS, Tables};
 use std::io;
+use std::io::{Read, Write};
+
+// A whole script, and its last line.
+fn run<R: Read, W: Write>(
+    reader: &mut R,
+    writer: &mut W,
+    mesh: &mut MeshMut,
+    out: &mut [u8; ANSWERS],
+) -> io::Result<()>
+    requires { ScriptSizes (mesh_of mesh.old) }
+    ensures { SameMesh mesh.old mesh.new }
+{
+    input::run_script(reader, writer, mesh, out)?;
+    input::write_end(writer, mesh.view(), out)
+}
 
 fn main(rt: HostRuntime) -> io::Result<()> {
     let mut reader = rt.stdin();
@@ -20,14 +38,5 @@ fn main(rt: HostRuntime) -> io::Result<()> {
         faces: &mut tables.faces,
         counters: &mut tables.counters,
     };
-    input::run_script(&mut reader, &mut writer, &mut mesh, &mut out)?;
-    let mesh = MeshRef {
-        vertices: &tables.vertices,
-        positions: &tables.positions,
-        arcs: &tables.arcs,
-        edges: &tables.edges,
-        faces: &tables.faces,
-        counters: &tables.counters,
-    };
-    input::write_end(&mut writer, mesh, &mut out)
+    run(&mut reader, &mut writer, &mut mesh, &mut out)
 }

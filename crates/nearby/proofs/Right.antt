@@ -1,5 +1,5 @@
 -- Rows that become those of another table: one row, the rows of a list, the arcs of new edges, and all of them.
-use Prim.Native.Nat.{ℕ, ◌+◌, ◌-◌, ◌<◌}
+use Prim.Native.Nat.{ℕ, ◌+◌, ◌-◌, ◌≤◌, ◌<◌}
 use native.Mathlib.Numerals.{add-one}
 use native.Mathlib.Omega.{arith}
 use native.Mathlib.Decide.{ℕ_discrete}
@@ -25,6 +25,14 @@ toward-same o t = record { size = refl; stays = λ x r. r }
 -- one change after another
 pub toward-then : (o t n p : Table) → Toward o t n → Toward o n p → Toward o t p
 toward-then o t n p a b = record { size = b.size ∙ a.size; stays = λ x r. b.stays x (a.stays x r) }
+
+-- a link of no row copies nothing
+pub copied-out : (o t : Table) (x : ℕ) → (1 ≤ x → x ≤ length t → ⊥) → CopiedRow o t t x
+copied-out o t x n = (toward-same o t, λ a b. absurd (n a b))
+
+-- two rows, one after the other
+pub copied-both : (o t n p : Table) (x y : ℕ) → CopiedRow o t n x → CopiedRow o n p y → Toward o t p × (Right o p x × Right o p y)
+copied-both o t n p x y c d = (toward-then o t n p c.0 d.0, (d.0.stays x c.1, d.1))
 
 -- ---- the rows of a list
 

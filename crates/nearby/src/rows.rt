@@ -10,6 +10,7 @@ ghost use Rattle.nearby.specs.Rows.{SixCells, Listed, ListedTo, CopiedRow, Copie
 use pairs::{MARKS, marked};
 use rules::{ArcRow, EdgeRow, MeshMut, RoomRef};
 use tables::rows::{self, ROW_LIMIT};
+use tables::sets;
 
 // How many links are listed at most.
 pub const LISTED: usize = 2048;
@@ -140,6 +141,6 @@ pub fn copy_over(mesh: &mut MeshMut, room: RoomRef, near: Option<&[u32]>)
             copy_listed(mesh.arcs, room.arcs, list);
             copy_new(mesh, room);
         }
-        None => mesh.arcs.copy_from_slice(room.arcs),
+        None => sets::copy(mesh.arcs, room.arcs),
     }
 }

@@ -28,10 +28,10 @@ pub fn copy_over(mesh: &mut MeshMut, room: RoomRef, near: Option<&[u32]>)
     ensures same { SameMesh mesh.old mesh.new }
 {
     rows::copy_over(mesh, room, near);
-    mesh.vertices.copy_from_slice(room.vertices);
-    mesh.positions.copy_from_slice(room.positions);
-    mesh.edges.copy_from_slice(room.edges);
-    mesh.faces.copy_from_slice(room.faces);
+    sets::copy(mesh.vertices, room.vertices);
+    sets::copy(mesh.positions, room.positions);
+    sets::copy(mesh.edges, room.edges);
+    sets::copy(mesh.faces, room.faces);
 }
 
 // Every row of both rooms becomes zero.

@@ -25,7 +25,7 @@ pub const NEAR: usize = 2176;
 
 // The vertices that have a mark, and the links of the arcs that leave one.
 // Kept: no heap and fixed memory: the links, their number and their chains lie in one array, and 0 is none there as in a table's cell.
-#[derive(Drop)]
+#[derive(Clone, Copy)]
 pub struct Nearby {
     pub seen: [bool; MARKS],
     pub links: [u32; NEAR],

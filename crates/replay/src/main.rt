@@ -9,9 +9,10 @@
 mod stand; // stand.rt: where the list stands
 mod texts; // texts.rt: texts held against each other
 
-ghost use Rattle.std.specs.Prelude.{◌≤◌, length};
+ghost use Rattle.std.specs.Prelude.{◌≤◌, ◌<◌, length};
 ghost use Rattle.rules.specs.Lent.{SameMesh, mesh_in, mesh_of};
 ghost use Rattle.listing.specs.Lines.{Listable};
+ghost use Rattle.runs.specs.Sizes.{ScriptSizes};
 
 use listing::listed;
 use orders::Kind;
@@ -125,11 +126,40 @@ fn take_line(
 
 // ---- the list as it is read
 
-// One byte more of a line, which is taken where it ends.
-fn take_byte(
+// From a place on the first byte of a line, before which NULs are passed over, or the bytes up to the line's end, where it is taken, or to the
+// chunk's: the place after them.
+fn take_bytes(
     rt: &impl Print,
     mesh: &mut MeshMut,
-    b: u8,
+    chunk: &[u8],
+    at: usize,
+    line: &mut Held,
+    out: &mut [u8; ANSWERS],
+    kept: &mut [u8; KEPT],
+    s: &mut Stand,
+) -> io::Result<usize>
+    requires listable { Listable (mesh_of mesh.old) }
+    requires within { at < length chunk.now }
+    ensures { SameMesh mesh.old mesh.new }
+{
+    let Some(kind) = s.kind else {
+        s.begun(chunk[at]);
+        return Ok(at + 1);
+    };
+    let Some(next) = line.gather(chunk, at) else {
+        return Ok(chunk.len());
+    };
+    take_line(rt, mesh, kind, line.text(), out, kept, s)?;
+    line.clear();
+    s.kind = None;
+    Ok(next)
+}
+
+// A chunk of the list, which is gone through in as many turns as it has bytes, or fewer.
+fn take_chunk(
+    rt: &impl Print,
+    mesh: &mut MeshMut,
+    chunk: &[u8],
     line: &mut Held,
     out: &mut [u8; ANSWERS],
     kept: &mut [u8; KEPT],
@@ -138,17 +168,13 @@ fn take_byte(
     requires { Listable (mesh_of mesh.old) }
     ensures { SameMesh mesh.old mesh.new }
 {
-    let Some(kind) = s.kind else {
-        s.kind = Some(b);
-        return Ok(());
-    };
-    if b != b'\n' {
-        line.push(b);
-        return Ok(());
+    let mut at = 0;
+    for _ in 0..chunk.len() {
+        if at >= chunk.len() {
+            return Ok(());
+        }
+        at = take_bytes(rt, mesh, chunk, at, line, out, kept, s)?;
     }
-    take_line(rt, mesh, kind, line.text(), out, kept, s)?;
-    line.clear();
-    s.kind = None;
     Ok(())
 }
 
@@ -160,7 +186,8 @@ fn take_input(
     out: &mut [u8; ANSWERS],
     kept: &mut [u8; KEPT],
 ) -> io::Result<Stand>
-    requires { Listable (mesh_of mesh.old) }
+    requires sizes { ScriptSizes (mesh_of mesh.old) }
+    requires listable { Listable (mesh_of mesh.old) }
 {
     let mut s = Stand::new();
     let mut line = Held::new();
@@ -170,9 +197,7 @@ fn take_input(
         if n == 0 {
             return Ok(s);
         }
-        for &b in &chunk[..n] {
-            take_byte(rt, mesh, b, &mut line, out, kept, &mut s)?;
-        }
+        take_chunk(rt, mesh, &chunk[..n], &mut line, out, kept, &mut s)?;
     }
     Ok(s)
 }

@@ -26,6 +26,13 @@ impl Stand {
         }
     }
 
+    // With the first byte of a line, which no NUL is.
+    pub fn begun(&mut self, b: u8) {
+        if b != 0 {
+            self.kind = Some(b);
+        }
+    }
+
     // Whether the case has differed, or has printed more than the list has.
     pub fn differs(&self) -> bool {
         self.differs || self.from != self.end

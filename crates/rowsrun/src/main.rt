@@ -5,7 +5,8 @@
 
 mod print;
 
-ghost use Rattle.rules.specs.Lent.{SameMesh};
+ghost use Rattle.rules.specs.Lent.{SameMesh, mesh_of};
+ghost use Rattle.runs.specs.Sizes.{ScriptSizes};
 
 use rules::MeshMut;
 use runs::Tables;
@@ -24,6 +25,7 @@ fn shown(rt: &impl Print, mesh: &mut MeshMut, line: &[u8]) -> io::Result<()>
 
 // Lines that make what the others change.
 fn drawn(rt: &impl Print, mesh: &mut MeshMut) -> io::Result<()>
+    requires { ScriptSizes (mesh_of mesh.old) }
     ensures { SameMesh mesh.old mesh.new }
 {
     shown(rt, mesh, b"v 0 0 0")?;

@@ -1,6 +1,6 @@
 -- The lines of an input, cut out of the chunks in which it is read: of a line its first 513 bytes are held, in a buffer with the place
 -- reached in it, and with each line that ended something is done.
-use Rattle.std.specs.Prelude.{ℕ, ◌+◌, cond, [], ◌∷◌, set, take, eqb, ltb}
+use Rattle.std.specs.Prelude.{ℕ, ◌+◌, Bool, true, false, Option, None, Some, cond, [], ◌∷◌, set, take, eqb, ltb}
 use Rattle.rules.specs.Script.{Text, newline}
 use Rattle.script.specs.Texts.{Written, written}
 
@@ -47,3 +47,26 @@ cut_all f s (b ∷ bs) = cut_all f (cut_byte f s b) bs
 -- at the end of the input, the newline that an unended line lacks
 unfoldable pub lacking : ℕ → Text
 lacking held = cond (eqb held 0) [] (newline ∷ [])
+
+-- ---- up to the next newline at once
+
+-- where a line stands after some bytes of a chunk: the place after them, what is held of it, and whether a newline ended it
+pub record Gathering : Type 0 where
+  pub next : ℕ
+  pub line : Written
+  pub ended : Bool
+
+abbrev pub gathering : ℕ → Written → Bool → Gathering
+gathering n l e = record { next = n; line = l; ended = e }
+
+-- the bytes from a place on, up to the next newline, which is passed by, or to the chunk's end
+unfoldable pub gathered_from : ℕ → Written → Text → Gathering
+gathered_from at line [] = gathering at line false
+gathered_from at line (b ∷ bs) =
+    let rest = gathered_from (at + 1) (holding line b) bs in
+    cond (eqb b newline) (gathering (at + 1) line true) rest
+
+-- as the code has it: the place after a line that ended, or none where the bytes end first
+unfoldable pub gathered_to : ℕ → Option ℕ → Written → Gathering
+gathered_to end None line = gathering end line false
+gathered_to end (Some next) line = gathering next line true

@@ -2,3 +2,4 @@ pub mod Run
 pub mod Gather
 pub mod Feed
 pub mod Whole
+pub mod Sizes

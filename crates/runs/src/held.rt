@@ -1,13 +1,16 @@
 // The line that is read, held from chunk to chunk until its newline comes: its first 513 bytes.
 // It carries document 01's "one line a call, at most 512 bytes before the newline".
 
-ghost use Rattle.std.specs.Prelude.{◌≡◌, ◌≤◌};
+ghost use Rattle.std.specs.Prelude.{◌≡◌, ◌≤◌, ◌+◌, drop, length};
 ghost use Rattle.script.specs.Texts.{Written, written};
-ghost use Rattle.runs.specs.Gather.{holding, held_in, none_held};
+ghost use Rattle.runs.specs.Gather.{holding, held_in, none_held, gathered_from, gathered_to};
 ghost use Rattle.runs.specs.Whole.{fresh};
 
 use crate::HELD;
 use std::marker::Model;
+
+// The byte that ends a line.
+const NEWLINE: u8 = b'\n';
 
 // Kept: there is no heap: the bytes stand in an array, with how many of them count.
 #[derive(Drop)]
@@ -35,6 +38,14 @@ impl Held {
         }
     }
 
+    // The first bytes of an array.
+    pub fn of(bytes: [u8; HELD], len: usize) -> Self
+        requires { len ≤ 513 }
+        ensures { result ≡ written bytes len }
+    {
+        Held { bytes, len }
+    }
+
     // How many bytes are held.
     pub fn len(&self) -> usize
         ensures { result ≡ self.now.next }
@@ -57,6 +68,19 @@ impl Held {
             self.bytes[self.len] = b;
             self.len += 1;
         }
+    }
+
+    // The bytes of a chunk from a place on, up to the next newline, which is passed by, or to the chunk's end: the place after a line that ended.
+    pub fn gather(&mut self, chunk: &[u8], from: usize) -> Option<usize>
+        ensures { gathered_to (from + length (drop from chunk.now)) result self.new ≡ gathered_from from self.old (drop from chunk.now) }
+    {
+        for i in from..chunk.len() {
+            if chunk[i] == NEWLINE {
+                return Some(i + 1);
+            }
+            self.push(chunk[i]);
+        }
+        None
     }
 
     // The line ended.

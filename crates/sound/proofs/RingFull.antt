@@ -3,14 +3,16 @@ use Prim.Native.Nat.{ℕ, ◌+◌, ◌-◌, ◌≤◌, ◌<◌}
 use native.Mathlib.Omega.{arith}
 use mathlib.Core.Path.{◌≡◌, refl, sym, ◌∙◌}
 use mathlib.Core.Bool.{Bool, true, false, not, ◌&&◌, ◌||◌}
-use mathlib.Core.List.{[]}
+use mathlib.Core.List.{List, []}
 use lib.ListN.{length, get_or}
 use lib.Dec.{T, eqb, eqb→eq}
+use lib.Ieee.{Float}
 use lib.Ieee.Fits.{and_l, and_r, and_i}
 use borrow.Author.Tests.{eq-eqb, ne_eqb}
 use Rattle.rules.specs.Table.{Table, each_used, there, sum_below}
-use Rattle.rules.specs.Mesh.{Mesh}
-use Rattle.rules.specs.Link.{ring}
+use Rattle.rules.specs.Mesh.{Mesh, mesh}
+use Rattle.rules.specs.Link.{ring, ring_ended}
+use Rattle.rules.specs.Sound.{names_holder, comes_back, three_to_limit, sources_differ, ring_holds, runs_back}
 use Rattle.rules.proofs.Sums.{same_test}
 use Rattle.proved.specs.Demand.{all_holders}
 use Rattle.proved.proofs.Rows.{T_true, true-T, same-T, cell_row, used-at}
@@ -21,7 +23,15 @@ use Rattle.sound.specs.Names.{keys_rise}
 use Rattle.sound.specs.Parts.{PassOf}
 use Rattle.names.proofs.Loops.{Passed, none_yet, one_more, all-passed}
 use Rattle.sound.proofs.Counting.{on_rings, whole-three}
-use Rattle.sound.proofs.RingSums.{sum_more, sum-upto, no_test}
+use Rattle.sound.proofs.RingSums.{bare, sum_more, sum-upto, no_test}
+
+-- ---- no other table is read
+
+-- whether all rings are full is told by the arcs and the faces alone
+module _ (v : Table) (p : List (List Float)) (arcs e faces : Table) (k : List ℕ) where
+  pub bare-full : rings_full (bare arcs faces) ≡ rings_full (mesh v p arcs e faces k)
+  unfolding rings_full ring_whole ring_linked names_holder comes_back three_to_limit sources_differ ring_holds runs_back ring ring_ended
+  bare-full = refl
 
 -- ---- the loop
 

@@ -1,12 +1,20 @@
--- For the loop over all faces: sums up to a face.
+-- For the loop over all faces: the mesh that it reads, and sums up to a face.
 use Prim.Native.Nat.{ℕ, zero, suc, ◌+◌, ◌≤◌, zero-le}
 use native.Mathlib.Numerals.{add-one}
 use native.Mathlib.Omega.{arith}
 use native.Mathlib.Decide.{ℕ_discrete}
 use mathlib.Core.Path.{◌≡◌, refl}
 use mathlib.Core.Bool.{Bool, true, false}
+use mathlib.Core.List.{[]}
 use lib.Dec.{T}
-use Rattle.rules.specs.Table.{sum_below}
+use Rattle.rules.specs.Table.{Table, sum_below}
+use Rattle.rules.specs.Mesh.{Mesh, mesh}
+
+-- ---- no other table is read
+
+-- a mesh of arcs and faces alone
+abbrev pub bare : Table → Table → Mesh
+bare arcs faces = mesh [] [] arcs [] faces []
 
 -- ---- sums
 

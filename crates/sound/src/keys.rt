@@ -3,9 +3,9 @@
 // passes over the tables tell; where they do not rise, names are copied and compared. The list of names is the caller's: what it has does
 // not matter.
 
-ghost use Rattle.std.specs.Prelude.{◌≡◌, true, ◌&&◌, ◌||◌, ◌≤◌, length, take, eqb, ltb};
-ghost use Rattle.rules.specs.Table.{distinct, or_else};
-ghost use Rattle.rules.specs.Lent.{mesh_in};
+ghost use Rattle.std.specs.Prelude.{◌≡◌, true, ◌&&◌, ◌||◌, ◌≤◌, List, ℕ, Float, length, take, eqb, ltb};
+ghost use Rattle.rules.specs.Table.{Table, distinct, or_else};
+ghost use Rattle.rules.specs.Mesh as Meshes;
 ghost use Rattle.rules.specs.Sound.{within_limits, keys_of, keys_differ};
 ghost use Rattle.sound.specs.Tests.{key_test};
 ghost use Rattle.sound.specs.Names.{firsts, keys_rise};
@@ -82,11 +82,13 @@ fn differ<const N: usize>(names: &mut [u32; ROWS], t: &[[u32; N]], rising: bool)
     names::names_differ(names, t.len())
 }
 
-// Keys in a table differ, in tables within the limits. A table whose keys were found to rise is not gone over again.
+// Keys in a table differ, in tables within the limits, whatever stands beside these three. A table whose keys were found to rise is not gone over again.
 pub fn keys_differ(names: &mut [u32; ROWS], mesh: MeshRef, ordered: Ordered) -> bool
     requires { (ordered.vertices ≡ true → keys_rise mesh.vertices.now ≡ true)
         × ((ordered.edges ≡ true → keys_rise mesh.edges.now ≡ true) × (ordered.faces ≡ true → keys_rise mesh.faces.now ≡ true)) }
-    ensures { within_limits (mesh_in mesh.entry) ≡ true → result ≡ keys_differ (mesh_in mesh.entry) }
+    ensures { (p : List (List Float)) (a : Table) (k : List ℕ) →
+        within_limits (Meshes.mesh mesh.entry.vertices.now p a mesh.entry.edges.now mesh.entry.faces.now k) ≡ true →
+        result ≡ keys_differ (Meshes.mesh mesh.entry.vertices.now p a mesh.entry.edges.now mesh.entry.faces.now k) }
 {
     differ(names, mesh.vertices, ordered.vertices)
         && (differ(names, mesh.edges, ordered.edges) && differ(names, mesh.faces, ordered.faces))

@@ -2,8 +2,9 @@
 // blanks.rt, on one row. "Each arc's edge joins its ends" is a count: each edge names two arcs that hold it, and there are no others.
 // A pass over a table with keys tells on the way whether they rise from row to row (keys.rt). That over the faces is in faces.rt.
 
-ghost use Rattle.std.specs.Prelude.{◌≡◌, cond, ◌+◌, ◌*◌, ◌≤◌, length};
-ghost use Rattle.rules.specs.Table.{count, used};
+ghost use Rattle.std.specs.Prelude.{◌≡◌, cond, List, ℕ, Float, ◌+◌, ◌*◌, ◌≤◌, length};
+ghost use Rattle.rules.specs.Table.{Table, count, used};
+ghost use Rattle.rules.specs.Mesh as Meshes;
 ghost use Rattle.rules.specs.Lent.{mesh_in};
 ghost use Rattle.proved.specs.Demand.{holds_some};
 ghost use Rattle.sound.specs.Tests.{vertex_test, arc_test, edge_test};
@@ -80,12 +81,13 @@ fn plus(n: usize, so: bool) -> usize
     if so { n + 1 } else { n }
 }
 
-// How many arcs hold a face, where every row passes and there are as many arcs as edges name. A row that holds a face passes: it is on a
+// How many arcs hold a face, where every row passes and there are as many arcs as edges name, whatever edges these are. A row that holds a face passes: it is on a
 // ring (faces.rt). Nearly all rows do, and a run of them is counted at once (holders.rt).
 // Kept: a run of rows that hold a face is counted at once, so the step is as long as the run.
 pub fn arcs_held(mesh: MeshRef, named: usize) -> Option<usize>
     requires { length mesh.arcs.now ≤ 16384 }
-    ensures { named ≡ 2 * count used mesh.entry.edges.now → CountOf (arcs_sound (mesh_in mesh.entry)) (count holds_some mesh.entry.arcs.now) result }
+    ensures { (v : Table) (p : List (List Float)) (e f : Table) (k : List ℕ) → named ≡ 2 * count used e →
+        CountOf (arcs_sound (Meshes.mesh v p mesh.entry.arcs.now e f k)) (count holds_some mesh.entry.arcs.now) result }
 {
     let arcs = mesh.arcs;
     let mut held: usize = 0;

@@ -21,11 +21,14 @@ const FACE_LIMIT: usize = 4096;
 // ---- one table
 
 // The first rows become those of the other table, as many as both have.
+// Kept: a row at a time: `copy_from_slice` is compiled to memmove, a name that the archive for C would need from outside.
 pub fn copy<T: Copy>(to: &mut [T], from: &[T])
     ensures { to.new ≡ over from.now to.old }
 {
     let n = to.len().min(from.len());
-    to[..n].copy_from_slice(&from[..n]);
+    for i in 0..n {
+        to[i] = from[i];
+    }
 }
 
 // Every row becomes zero.

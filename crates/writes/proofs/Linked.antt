@@ -1,17 +1,22 @@
--- A body in lent bytes, record after record.
+-- A body in lent bytes, record after record, and the links of a kind, which are told by the tables alone.
 use Prim.Native.Nat.{ℕ, suc, ◌+◌, ◌-◌, ◌≤◌, ◌<◌}
 use native.Mathlib.Numerals.{add-one}
 use native.Mathlib.Omega.{arith}
-use mathlib.Core.Path.{◌≡◌, ap, sym, ◌∙◌}
-use mathlib.Core.List.{List, ◌++◌}
+use mathlib.Core.Path.{◌≡◌, refl, ap, sym, ◌∙◌}
+use mathlib.Core.List.{List, [], ◌++◌, map}
 use lib.ListN.{length, get_or, drop, drop_of_length-le}
 use lib.Seq.{drop-cons}
-use Rattle.rules.specs.Mesh.{Mesh}
+use lib.Ieee.{Float}
+use Rattle.rules.specs.Table.{Table}
+use Rattle.rules.specs.Mesh.{Mesh, mesh}
+use Rattle.rules.specs.Records.{arc_name, vertex_record, arc_record, edge_record, face_record, arc_before}
 use Rattle.rules.specs.Script.{Text}
 use Rattle.file.specs.File.{total, body_text, body_length}
 use Rattle.file.proofs.Cells.{row-length, body-space, body-none}
 use Rattle.orders.specs.declared.kinds.Kind.{Kind}
-use Rattle.writes.specs.Writing.{put_text, widths_of, cells_of, record_text, links_text}
+use Rattle.orders.specs.declared.kinds.Kind.TheVariants.{Vertices, Arcs, Edges, Faces}
+use Rattle.orders.specs.Order.{table_of, before_of, used_links, links_of}
+use Rattle.writes.specs.Writing.{put_text, widths_of, cells_of, record_text, links_text, kind_text}
 use Rattle.writes.proofs.Texts.{put-none, put_on}
 
 -- ---- record after record
@@ -43,3 +48,28 @@ room_next ws n i h = let e : n - i ≡ suc (n - (i + 1)) = omega arith in ap (bo
 
 pub room-end : (ws : List ℕ) (n i : ℕ) → n ≤ i → body_length ws (n - i) ≡ 0
 room-end ws n i h = let e : n - i ≡ 0 = omega arith in ap (body_length ws) e ∙ body-none ws
+
+-- ---- the links of a kind
+
+module _ (v : Table) (p : List (List Float)) (a e f : Table) (k : List ℕ) where
+  -- no positions and no counters order them
+  pub links-same : (kind : Kind) → links_of (mesh v [] a e f []) kind ≡ links_of (mesh v p a e f k) kind
+  unfolding links_of used_links before_of table_of arc_before
+  links-same Vertices = refl
+  links-same Arcs = refl
+  links-same Edges = refl
+  links-same Faces = refl
+
+  cells_same : (kind : Kind) → cells_of (mesh v p a e f []) kind ≡ cells_of (mesh v p a e f k) kind
+  unfolding cells_of vertex_record arc_record edge_record face_record arc_name
+  cells_same Vertices = refl
+  cells_same Arcs = refl
+  cells_same Edges = refl
+  cells_same Faces = refl
+
+  -- nor do their records read the counters
+  pub kind-same : (kind : Kind) → links_text (mesh v p a e f []) kind (links_of (mesh v [] a e f []) kind) ≡ kind_text (mesh v p a e f k) kind
+  unfolding kind_text links_text
+  kind-same kind =
+      ap (λ (l : List ℕ). body_text (widths_of kind) (map (cells_of (mesh v p a e f []) kind) l)) (links-same kind)
+      ∙ ap (λ (g : ℕ → List ℕ). body_text (widths_of kind) (map g (links_of (mesh v p a e f k) kind))) (cells_same kind)

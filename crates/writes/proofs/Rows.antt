@@ -1,20 +1,21 @@
--- What a vertex's bytes are: its cells, put one after the other.
+-- What a vertex's bytes are: its cells, put one after the other; which tables a record reads, and how many bytes it takes.
 use Prim.Native.Nat.{ℕ, ◌+◌}
 use native.Mathlib.Omega.{arith}
 use mathlib.Core.Path.{◌≡◌, refl, ap, sym, ◌∙◌}
-use mathlib.Core.List.{[], ◌++◌, append-nil}
+use mathlib.Core.List.{List, [], ◌++◌, append-nil}
 use mathlib.Core.Bool.{true}
 use mathlib.Core.Path.{subst}
 use lib.Dec.{T}
 use lib.Ieee.{Float, nan, inf, fin, is_nan, binary64, to_bits}
 use Rattle.rules.specs.Script.{Text}
 use Rattle.rules.specs.declared.Position.{Position}
-use Rattle.rules.specs.Mesh.{Mesh, key_at, leading}
+use Rattle.rules.specs.Table.{Table}
+use Rattle.rules.specs.Mesh.{Mesh, mesh, key_at, leading}
 use Rattle.rules.specs.Point.{position_at}
-use Rattle.rules.specs.Records.{arc_name, vertex_record}
-use Rattle.file.specs.File.{cell_text, row_text, key_cell, vertex_cells}
+use Rattle.rules.specs.Records.{arc_name, vertex_record, arc_record, edge_record, face_record}
+use Rattle.file.specs.File.{cell_text, row_text, total, key_cell, vertex_cells}
 use Rattle.file.proofs.Cells.{cell-length}
-use Rattle.orders.specs.declared.kinds.Kind.TheVariants.{Vertices}
+use Rattle.orders.specs.declared.kinds.Kind.TheVariants.{Vertices, Arcs, Edges, Faces}
 use Rattle.writes.specs.Writing.{put_text, widths_of, cells_of, record_text}
 use Rattle.writes.proofs.Texts.{put_then}
 
@@ -39,3 +40,48 @@ module _ (m : Mesh) (x at : ℕ) (out one two three four five : Text) where
   unfolding row_text record_text widths_of cells_of vertex_cells vertex_record
   vertex-put key a b c l lead p e1 e2 e3 e4 e5 ek ep ea eb ec el en =
       cells-put key a b c lead e1 e2 e3 e4 e5 ∙ rw (ea, eb, ec, en, ek, ep, el)
+
+-- ---- a record of a kind is told by its tables alone
+
+module _ (v : Table) (p : List (List Float)) (a e f : Table) (x : ℕ) where
+  -- a vertex's by the vertices, the positions and the arcs
+  pub vertex-same : record_text (mesh v p a [] [] []) Vertices x ≡ record_text (mesh v p a e f []) Vertices x
+  unfolding record_text cells_of vertex_record arc_name
+  vertex-same = refl
+
+  -- an arc's by all but the positions
+  pub arc-same : record_text (mesh v [] a e f []) Arcs x ≡ record_text (mesh v p a e f []) Arcs x
+  unfolding record_text cells_of arc_record arc_name
+  arc-same = refl
+
+  -- an edge's by the vertices, the arcs and the edges
+  pub edge_same : record_text (mesh v [] a e [] []) Edges x ≡ record_text (mesh v p a e f []) Edges x
+  unfolding record_text cells_of edge_record arc_name
+  edge_same = refl
+
+  -- a face's by the vertices, the arcs and the faces
+  pub face-same : record_text (mesh v [] a [] f []) Faces x ≡ record_text (mesh v p a e f []) Faces x
+  unfolding record_text cells_of face_record arc_name
+  face-same = refl
+
+-- ---- how many bytes each takes
+
+-- a vertex 32
+pub vertex-total : total (widths_of Vertices) ≡ 32
+unfolding total widths_of
+vertex-total = refl
+
+-- an arc 24
+pub arc-total : total (widths_of Arcs) ≡ 24
+unfolding total widths_of
+arc-total = refl
+
+-- an edge 12
+pub edge-total : total (widths_of Edges) ≡ 12
+unfolding total widths_of
+edge-total = refl
+
+-- a face 16
+pub face-total : total (widths_of Faces) ≡ 16
+unfolding total widths_of
+face-total = refl

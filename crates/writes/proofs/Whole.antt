@@ -8,10 +8,11 @@ use mathlib.Core.List.{List, [], ◌∷◌, ◌++◌, map, append_assoc, append-
 use lib.ListN.{length, get_or, drop, length-append, length-map}
 use lib.Seq.{get_or-drop}
 use lib.Dec.{T, eqb, leb, leb→le, eqb→eq}
+use lib.Ieee.{Float}
 use lib.Ieee.Fits.{and_l, and_r}
 use borrow.Author.Tests.{lt-ltb, le-ltb}
 use Rattle.rules.specs.Table.{Table}
-use Rattle.rules.specs.Mesh.{Mesh}
+use Rattle.rules.specs.Mesh.{Mesh, mesh}
 use Rattle.rules.specs.Records.{vertex_record, arc_record, edge_record, face_record, records}
 use Rattle.rules.specs.Sound.{within_limits, sound}
 use Rattle.rules.specs.Script.{Text}
@@ -24,6 +25,7 @@ use Rattle.orders.specs.Order.{table_of, before_of, used_links, links_of}
 use Rattle.writes.specs.declared.Counts.{Counts}
 use Rattle.writes.specs.Writing.{put_text, words_text, widths_of, cells_of, links_text, kind_text, bodies_of, counts_of, head_text, length_of, Small}
 use Rattle.writes.proofs.Texts.{put_then, put_whole}
+use Rattle.writes.proofs.Linked.{links-same, kind-same}
 
 -- ---- one text after the other
 
@@ -176,6 +178,22 @@ file-long m =
     ∙ length-append (head_text (counts_of m) m.counters) (bodies_of m)
     ∙ omega (arith, head-long (counts_of m) m.counters, bodies-long m)
 
+-- ---- told by the tables alone
+
+module _ (v : Table) (p : List (List Float)) (a e f : Table) (k : List ℕ) where
+  -- no positions and no counters change how many there are
+  pub counts_same : counts_of (mesh v [] a e f []) ≡ counts_of (mesh v p a e f k)
+  unfolding counts_of
+  counts_same = rw (links-same v p a e f k Vertices, links-same v p a e f k Arcs, links-same v p a e f k Edges, links-same v p a e f k Faces)
+
+  one_same : (kind : Kind) → kind_text (mesh v p a e f []) kind ≡ kind_text (mesh v p a e f k) kind
+  one_same kind = sym (kind-same v p a e f [] kind) ∙ kind-same v p a e f k kind
+
+  -- no counters change the bodies
+  pub bodies-same : bodies_of (mesh v p a e f []) ≡ bodies_of (mesh v p a e f k)
+  unfolding bodies_of
+  bodies-same = rw (one_same Vertices, one_same Arcs, one_same Edges, one_same Faces)
+
 -- ---- what the check lets pass is small
 
 module _ (m : Mesh) (h : sound m ≡ true) where
@@ -209,6 +227,11 @@ module _ (m : Mesh) (h : sound m ≡ true) where
       rows Faces = omega (arith, parts.1.1.1)
 
 -- ---- the turns of the calls
+
+-- of any counts, the whole length holds the table of contents
+pub length-least : (c : Counts) → 44 ≤ length_of c
+unfolding length_of
+length-least c = omega arith
 
 -- the whole length, by the room that each body takes
 pub sizes : (m : Mesh)

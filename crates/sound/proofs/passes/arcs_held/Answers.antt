@@ -7,6 +7,7 @@ use mathlib.Core.List.{[]}
 use lib.ListN.{get_or}
 use Rattle.rules.specs.Table.{used}
 use Rattle.rules.specs.Lent.{mesh_in}
+use Rattle.rules.specs.Mesh.{mesh}
 use Rattle.proved.specs.Demand.{holds_some}
 use Rattle.tables.proofs.Scans.{counted_none, counted-all}
 use Rattle.names.proofs.Loops.{none_yet, one_more}
@@ -29,8 +30,8 @@ loop-i-preserved-then-holds_some c =
 
 pub returns-then-not-arc_row : goal.returns-then-not-arc_row
 returns-then-not-arc_row c =
-    let m = mesh_in c.args.mesh in
-    λ q. arcs-fail m c.loop-i.i (omega arith) (sym c.arc_row.ensures ∙ c.if-not-arc_row.true)
+    let a = c.args.mesh.arcs.now in
+    λ v p e f k q. arcs-fail (mesh v p a e f k) c.loop-i.i (omega arith) (sym c.arc_row.ensures ∙ c.if-not-arc_row.true)
 
 pub loop-i-preserved : goal.loop-i-preserved
 loop-i-preserved c =
@@ -47,11 +48,11 @@ loop-i-preserved c =
 
 pub returns-then-held-loose : goal.returns-then-held-loose
 returns-then-held-loose c =
-    let m = mesh_in c.args.mesh in
-    λ q. (arcs-other m (c.loop-i.held + c.loop-i.loose) c.args.named (counted-all used m.arcs [] (c.loop-i.held + c.loop-i.loose) c.loop-i.i c.loop-i-test.false c.loop-i.invariant.1.1.1.0) q c.loop-i.i (omega arith) (omega arith) c.loop-i.invariant.1.1.0 c.if-held-loose.true)
+    let a = c.args.mesh.arcs.now in
+    λ v p e f k q. (arcs-other (mesh v p a e f k) (c.loop-i.held + c.loop-i.loose) c.args.named (counted-all used a [] (c.loop-i.held + c.loop-i.loose) c.loop-i.i c.loop-i-test.false c.loop-i.invariant.1.1.1.0) q c.loop-i.i (omega arith) (omega arith) c.loop-i.invariant.1.1.0 c.if-held-loose.true)
 
 pub returns : goal.returns
 returns c =
-    let m = mesh_in c.args.mesh in
-    let n = counted-all holds_some m.arcs [] c.loop-i.held c.loop-i.i c.loop-i-test.false c.loop-i.invariant.1.1.1.1 in
-    λ q. (arcs-pass m (c.loop-i.held + c.loop-i.loose) c.args.named (counted-all used m.arcs [] (c.loop-i.held + c.loop-i.loose) c.loop-i.i c.loop-i-test.false c.loop-i.invariant.1.1.1.0) q c.loop-i.i (omega arith) (omega arith) c.loop-i.invariant.1.1.0 c.if-held-loose.false, n)
+    let a = c.args.mesh.arcs.now in
+    let n = counted-all holds_some a [] c.loop-i.held c.loop-i.i c.loop-i-test.false c.loop-i.invariant.1.1.1.1 in
+    λ v p e f k q. (arcs-pass (mesh v p a e f k) (c.loop-i.held + c.loop-i.loose) c.args.named (counted-all used a [] (c.loop-i.held + c.loop-i.loose) c.loop-i.i c.loop-i-test.false c.loop-i.invariant.1.1.1.0) q c.loop-i.i (omega arith) (omega arith) c.loop-i.invariant.1.1.0 c.if-held-loose.false, n)

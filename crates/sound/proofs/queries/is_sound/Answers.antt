@@ -57,11 +57,12 @@ arcs_held-requires c =
 pub returns-in_default-arcs_held : goal.returns-in_default-arcs_held
 returns-in_default-arcs_held c =
     let m = mesh_in c.args.mesh in
-    lacks m (arcs_sound m) (arcs-of m) (c.in_default-arcs_held.ensures (omega (arith, c.in-Some-edges_named.ensures.1.0)))
+    lacks m (arcs_sound m) (arcs-of m) (c.in_default-arcs_held.ensures m.vertices m.positions m.edges m.faces m.counters (omega (arith, c.in-Some-edges_named.ensures.1.0)))
 
 pub rings_sound-requires : goal.rings_sound-requires
 rings_sound-requires c =
-    (c.in-Some-arcs_held.ensures (omega (arith, c.in-Some-edges_named.ensures.1.0))).1
+    let m = mesh_in c.args.mesh in
+    (c.in-Some-arcs_held.ensures m.vertices m.positions m.edges m.faces m.counters (omega (arith, c.in-Some-edges_named.ensures.1.0))).1
 
 pub returns-in_default-rings_sound : goal.returns-in_default-rings_sound
 returns-in_default-rings_sound c =
@@ -73,7 +74,7 @@ returns-then-not-names_differ c =
     let m = mesh_in c.args.mesh in
     let limits : within_limits m ≡ true = sym c.within_limits.ensures ∙ c.if-not-within_limits.false in
     let e = c.in-Some-edges_named.ensures in
-    let arcs = c.in-Some-arcs_held.ensures (omega (arith, e.1.0)) in
+    let arcs = c.in-Some-arcs_held.ensures m.vertices m.positions m.edges m.faces m.counters (omega (arith, e.1.0)) in
     let rows : (rows_sound m ≡ true) × (rings_full m ≡ true) = rows_all m limits c.in-Some.ensures.0 (sym c.positions_sound.ensures ∙ c.if-not-positions_sound.false) e.0 arcs.0 c.in-Some-rings_sound.ensures.0 in
     let pairs : c.names_differ.result ≡ pairs_differ m = pairs-told m rows.0 _ e.1.1.0 c.names_differ.result c.names_differ.ensures in
     lacks m (pairs_differ m) (pairs_of m) (sym pairs ∙ c.if-not-names_differ.true)
@@ -86,7 +87,7 @@ returns c =
     let m = mesh_in c.args.mesh in
     let limits : within_limits m ≡ true = sym c.within_limits.ensures ∙ c.if-not-within_limits.false in
     let e = c.in-Some-edges_named.ensures in
-    let arcs = c.in-Some-arcs_held.ensures (omega (arith, e.1.0)) in
+    let arcs = c.in-Some-arcs_held.ensures m.vertices m.positions m.edges m.faces m.counters (omega (arith, e.1.0)) in
     let rows : (rows_sound m ≡ true) × (rings_full m ≡ true) = rows_all m limits c.in-Some.ensures.0 (sym c.positions_sound.ensures ∙ c.if-not-positions_sound.false) e.0 arcs.0 c.in-Some-rings_sound.ensures.0 in
     let pairs : c.names_differ.result ≡ pairs_differ m = pairs-told m rows.0 _ e.1.1.0 c.names_differ.result c.names_differ.ensures in
-    c.keys_differ.ensures limits ∙ decides m rows.0 rows.1 (sym pairs ∙ c.if-not-names_differ.false)
+    c.keys_differ.ensures m.positions m.arcs m.counters limits ∙ decides m rows.0 rows.1 (sym pairs ∙ c.if-not-names_differ.false)
